@@ -1,0 +1,5 @@
+pub mod Kind
+pub mod Number
+pub mod Name
+pub mod Causes
+pub mod Streams

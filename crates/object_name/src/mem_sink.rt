@@ -1,0 +1,4 @@
+//! A sink in memory.
+
+/// To come.
+pub struct MemSink {}

