@@ -1,0 +1,54 @@
+-- Jobs: what a function is run on, and how long its encoding is.
+use Rattle.std.specs.Prelude.{ℕ, ◌+◌, List, ◌++◌, length, map, sum_by}
+use Rattle.std.specs.List.{flat_map}
+use Rattle.std.specs.Int.{w32, to_be_bytes}
+use Rattle.object_name.specs.Name.{ObjectName}
+use Rattle.thunk_codec.specs.declared.job.Job.{Job}
+use Rattle.thunk_codec.specs.declared.reference.Ref.{Ref}
+use Rattle.thunk_codec.specs.declared.reference.Ref.TheVariants.{Value, Out}
+use Rattle.thunk_codec.specs.Thunk.{Parts}
+
+-- the greatest length of a job's encoding, in bytes
+abbrev pub max_job : ℕ
+max_job = 67108864
+
+-- a count: four bytes, the highest first
+abbrev pub count : ℕ → List ℕ
+count n = to_be_bytes w32 n
+
+-- a string: its length as a count, then its bytes
+abbrev pub string : List ℕ → List ℕ
+string bytes = count (length bytes) ++ bytes
+
+-- two strings
+abbrev pub string_pair : List ℕ × List ℕ → List ℕ
+string_pair pair = string pair.0 ++ string pair.1
+
+-- the encoding of a job
+unfoldable pub job_encoding : Job → List ℕ
+job_encoding job = string job.function
+    ++ (count (length job.args) ++ (flat_map string job.args
+    ++ (count (length job.envs) ++ (flat_map string_pair job.envs
+    ++ (count (length job.inputs) ++ (flat_map string_pair job.inputs
+    ++ (count (length job.outputs) ++ flat_map string job.outputs)))))))
+
+-- the length of the encoding
+abbrev pub job_size : Job → ℕ
+job_size job = length (job_encoding job)
+
+-- the same by the lengths of the function and of the inputs
+unfoldable pub size_by_lengths : ℕ → List (List ℕ) → List (List ℕ × List ℕ) → List (List ℕ × ℕ) → List (List ℕ) → ℕ
+size_by_lengths function args envs inputs outputs = 20 + function
+    + sum_by (λ arg. 4 + length arg) args
+    + sum_by (λ env. 8 + length env.0 + length env.1) envs
+    + sum_by (λ input. 8 + length input.0 + input.1) inputs
+    + sum_by (λ output. 4 + length output) outputs
+
+-- the object that a REF names
+abbrev pub ref_name : Ref → ObjectName
+ref_name (Value name) = name
+ref_name (Out name index) = name
+
+-- the size of the job of a thunk whose REFs are all values, by the sizes in their names
+unfoldable pub resolved_size : Parts → ℕ
+resolved_size t = size_by_lengths (ref_name t.function).size t.args t.envs (map (λ input. (input.0, (ref_name input.1).size)) t.inputs) t.outputs

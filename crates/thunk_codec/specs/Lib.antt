@@ -1,0 +1,7 @@
+pub mod Maybe
+pub mod Path
+pub mod Reference
+pub mod Thunk
+pub mod Reading
+pub mod Job
+pub mod Outcome

@@ -1,0 +1,113 @@
+-- Reading a thunk's text from its front, as a total function.
+use Rattle.std.specs.Prelude.{ℕ, zero, suc, List, [], ◌∷◌, length, map, take, drop, nat_eq, nat_le, ◌==◌, ◌&&◌, Bool, Option, Some, None, bytes_eq, if◌then◌else◌}
+use Rattle.std.specs.List.{starts_with, list_all}
+use Rattle.object_name.specs.Number.{number_of}
+use Rattle.object_name.specs.Name.{max_size}
+use Rattle.thunk_codec.specs.declared.reference.Ref.{Ref}
+use Rattle.thunk_codec.specs.Maybe.{◌>>=◌, ◌>>◌, check}
+use Rattle.thunk_codec.specs.Path.{is_path}
+use Rattle.thunk_codec.specs.Reference.{ref_of}
+use Rattle.thunk_codec.specs.Thunk.{Parts, head_line, end_line, has_no_zero, is_identifier, rises, are_distinct}
+
+-- what stands behind a mark
+abbrev pub behind : List ℕ → List ℕ → Option (List ℕ)
+behind mark bytes = do
+  check (starts_with nat_eq bytes mark)
+  Some (drop (length mark) bytes)
+
+-- one byte more in front of what was read
+abbrev pub with_byte : ℕ → List ℕ × List ℕ → List ℕ × List ℕ
+with_byte byte read = (byte ∷ read.0, read.1)
+
+-- the bytes before the first stop byte, and those behind it
+unfoldable pub split_at_byte : ℕ → List ℕ → Option (List ℕ × List ℕ)
+split_at_byte stop [] = None
+split_at_byte stop (byte ∷ bytes) =
+    if byte == stop then Some ([], bytes) else (split_at_byte stop bytes >>= λ read. Some (with_byte byte read))
+
+-- `LEN:` and so many bytes
+unfoldable pub counted_at : List ℕ → Option (List ℕ × List ℕ)
+counted_at bytes = do
+  len ← split_at_byte 58 bytes
+  n ← number_of len.0
+  check (nat_le n (length len.1))
+  Some (take n len.1, drop n len.1)
+
+-- a REF up to the end of its line
+unfoldable pub ref_at : List ℕ → Option (Ref × List ℕ)
+ref_at bytes = do
+  text ← split_at_byte 10 bytes
+  ref ← ref_of text.0
+  Some (ref, text.1)
+
+-- what an `a` or `o` line says behind its letter
+unfoldable pub bytes_at : List ℕ → Option (List ℕ × List ℕ)
+bytes_at bytes = do
+  said ← counted_at bytes
+  rest ← behind (10 ∷ []) said.1
+  Some (said.0, rest)
+
+-- what an `e` line says behind its letter
+unfoldable pub env_at : List ℕ → Option ((List ℕ × List ℕ) × List ℕ)
+env_at bytes = do
+  said ← bytes_at bytes
+  env ← split_at_byte 61 said.0
+  Some (env, said.1)
+
+-- what an `i` line says behind its letter
+unfoldable pub input_at : List ℕ → Option ((List ℕ × Ref) × List ℕ)
+input_at bytes = do
+  path ← counted_at bytes
+  text ← behind (32 ∷ []) path.1
+  ref ← ref_at text
+  Some ((path.0, ref.0), ref.1)
+
+-- as many lines of a letter as there are, at most so many
+unfoldable pub lines_at : {A : Type 0} → ℕ → (List ℕ → Option (A × List ℕ)) → ℕ → List ℕ → Option (List A × List ℕ)
+lines_at letter said_at zero bytes = Some ([], bytes)
+lines_at letter said_at (suc most) bytes =
+    if starts_with nat_eq bytes (letter ∷ 32 ∷ []) then (do
+      first ← said_at (drop 2 bytes)
+      others ← lines_at letter said_at most first.1
+      Some (first.0 ∷ others.0, others.1))
+    else Some ([], bytes)
+
+-- all lines of a letter: none is empty, so there are at most as many as bytes
+abbrev pub all_lines_at : {A : Type 0} → ℕ → (List ℕ → Option (A × List ℕ)) → List ℕ → Option (List A × List ℕ)
+all_lines_at letter said_at bytes = lines_at letter said_at (length bytes) bytes
+
+-- the parts that a text lists, whatever rules they break, and the bytes behind it
+unfoldable pub parts_at : List ℕ → Option (Parts × List ℕ)
+parts_at bytes = do
+  first ← behind head_line bytes
+  letter ← behind (102 ∷ 32 ∷ []) first
+  function ← ref_at letter
+  args ← all_lines_at 97 bytes_at function.1
+  envs ← all_lines_at 101 env_at args.1
+  inputs ← all_lines_at 105 input_at envs.1
+  outputs ← all_lines_at 111 bytes_at inputs.1
+  rest ← behind end_line outputs.1
+  Some (record { function = function.0; args = args.0; envs = envs.0; inputs = inputs.0; outputs = outputs.0 }, rest)
+
+-- the rules on environments, inputs and outputs
+abbrev pub keeps_rules : Parts → Bool
+keeps_rules t =
+    list_all has_no_zero t.args
+    && (list_all is_identifier (map (λ env. env.0) t.envs)
+    && (list_all has_no_zero (map (λ env. env.1) t.envs)
+    && (rises (map (λ env. env.0) t.envs)
+    && (list_all is_path (map (λ input. input.0) t.inputs)
+    && (rises (map (λ input. input.0) t.inputs)
+    && (nat_le (length t.inputs) 4096
+    && (list_all is_path t.outputs
+    && (are_distinct t.outputs
+    && (nat_le 1 (length t.outputs) && nat_le (length t.outputs) 64)))))))))
+
+-- the parts of the thunk whose text this is, if there is one
+unfoldable pub thunk_of : List ℕ → Option Parts
+thunk_of bytes = do
+  check (nat_le (length bytes) max_size)
+  read ← parts_at bytes
+  check (bytes_eq read.1 [])
+  check (keeps_rules read.0)
+  Some read.0

@@ -1,0 +1,16 @@
+//! Paths, references, thunks and jobs, and their texts.
+#![tactic(auto)]
+
+mod decoding;
+mod function;
+mod job;
+mod path;
+mod reference;
+mod thunk;
+
+pub use decoding::{DecodeFault, decode};
+pub use function::{Function, Runner};
+pub use job::{Job, Outcome};
+pub use path::Path;
+pub use reference::Ref;
+pub use thunk::Thunk;

@@ -1,0 +1,69 @@
+//! Thunks: a function, its arguments, environment and inputs, and the names of its outputs.
+
+ghost use Rattle.std.specs.Prelude.{◌≡◌};
+ghost use Rattle.thunk_codec.specs.Thunk.{IsThunk};
+
+use crate::path::Path;
+use crate::reference::Ref;
+use object_name::{Bytes, Many};
+use std::marker::Model;
+
+/// A computation that is named by its content. Contracts see its parts; its type keeps that they have a text.
+#[derive(Debug, Drop)]
+pub struct Thunk {
+    function: Ref,
+    args: Many<Bytes>,
+    envs: Many<(Bytes, Bytes)>,
+    inputs: Many<(Path, Ref)>,
+    outputs: Many<Path>,
+}
+
+impl Model for Thunk {
+    ghost use Rattle.thunk_codec.specs.Thunk.{Parts, IsThunk};
+
+    ghost Value = { Parts };
+
+    ghost view = { λ t. record { function = t.function; args = t.args; envs = t.envs; inputs = t.inputs; outputs = t.outputs } };
+
+    ghost invariant = { λ t. IsThunk (record { function = t.function; args = t.args; envs = t.envs; inputs = t.inputs; outputs = t.outputs }) };
+}
+
+impl Thunk {
+    pub fn function(&self) -> &Ref
+        ensures function { result.now ≡ self.now.function }
+        ensures rules { IsThunk self.now }
+    {
+        &self.function
+    }
+
+    pub fn args(&self) -> &[Bytes]
+        ensures { result.now ≡ self.now.args }
+    {
+        self.args.as_slice()
+    }
+
+    /// The environment: keys and values, the keys in rising order.
+    pub fn envs(&self) -> &[(Bytes, Bytes)]
+        ensures { result.now ≡ self.now.envs }
+    {
+        self.envs.as_slice()
+    }
+
+    /// The inputs: their paths, in rising order, and what stands there.
+    pub fn inputs(&self) -> &[(Path, Ref)]
+        ensures { result.now ≡ self.now.inputs }
+    {
+        self.inputs.as_slice()
+    }
+
+    pub fn outputs(&self) -> &[Path]
+        ensures { result.now ≡ self.now.outputs }
+    {
+        self.outputs.as_slice()
+    }
+
+    /// The length of the encoding of this thunk's job where its references are all values, by the sizes in their names.
+    pub fn resolved_size(&self) -> u64 {
+        0
+    }
+}
