@@ -1,0 +1,50 @@
+-- What a call on a keeper, and storing an object, does to the store that the keeper tells.
+use Rattle.std.specs.Prelude.{◌≡◌, ◌⊎◌, ℕ, List, [], Option, Some, None, Result, Ok, Err, is_some, false}
+use Rattle.object_name.specs.Name.{ObjectName, name_of}
+use Rattle.object_name.specs.Causes.{RoseBy}
+use Rattle.blob_store.specs.declared.storing.StoreFault.{StoreFault}
+use Rattle.blob_store.specs.declared.storing.StoreFault.TheVariants.{Clash, Failed, Memory}
+use Rattle.blob_store.specs.Store.{Store, Write, written, after_write, held, other_held, own_write, storing}
+
+-- a write that failed was made or was not
+abbrev pub MayWrite : Store → Write → Store → Type 0
+MayWrite old write new = (new ≡ old) ⊎ (new ≡ after_write old write)
+
+-- storing that failed has changed nothing, or has made its write where nothing of that name was held
+pub record HasStored (old : Store) (bytes : List ℕ) (new : Store) : Type 0 where
+  pub free : held old.objects (name_of bytes) ≡ None
+  pub made : new ≡ after_write old (own_write bytes)
+
+abbrev pub MayStore : Store → List ℕ → Store → Type 0
+MayStore old bytes new = (new ≡ old) ⊎ HasStored old bytes new
+
+-- storing has made what was to be written, and no other bytes were held under that name
+pub record Stores (old : Store) (bytes : List ℕ) (new : Store) : Type 0 where
+  pub no_other : other_held old bytes ≡ None
+  pub made : new ≡ written old (storing old bytes)
+
+-- other bytes are held under that name, and nothing has changed
+pub record Clashes (old : Store) (bytes : List ℕ) (new : Store) (found : List ℕ) : Type 0 where
+  pub other : other_held old bytes ≡ Some found
+  pub same : new ≡ old
+
+-- what storing some bytes does, by its answer
+abbrev pub StoresAs : Store → List ℕ → Store → Result ObjectName StoreFault → Type 0
+StoresAs old bytes new (Ok name) = Stores old bytes new
+StoresAs old bytes new (Err (Clash name found fresh)) = Clashes old bytes new found
+StoresAs old bytes new (Err Failed) = MayStore old bytes new
+StoresAs old bytes new (Err Memory) = MayStore old bytes new
+
+-- two byte strings that differ and have one name, of which the second was to be stored
+abbrev pub ShowsClash : List ℕ → Result ObjectName StoreFault → Type 0
+ShowsClash bytes (Ok name) = Unit {0}
+ShowsClash bytes (Err (Clash name found fresh)) = (name ≡ name_of bytes) × (name_of found ≡ name) × (fresh ≡ bytes) × (found ≡ bytes → ⊥)
+ShowsClash bytes (Err Failed) = Unit {0}
+ShowsClash bytes (Err Memory) = Unit {0}
+
+-- storing fails only where the keeper's count rose by more than the retries
+abbrev pub StoreCause : ℕ → ℕ → ℕ → Result ObjectName StoreFault → Type 0
+StoreCause retries before after (Ok name) = Unit {0}
+StoreCause retries before after (Err (Clash name found fresh)) = Unit {0}
+StoreCause retries before after (Err Failed) = RoseBy retries before after
+StoreCause retries before after (Err Memory) = Unit {0}

