@@ -1,0 +1,4 @@
+pub mod Eval
+pub mod Evaluation
+pub mod PartWay
+pub mod Evaluating

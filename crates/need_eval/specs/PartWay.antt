@@ -1,0 +1,66 @@
+-- What a call that evaluates has done: all that the definition says, or a front of its writes.
+use Rattle.std.specs.Prelude.{◌≡◌, ℕ, List, ◌++◌, Result, Ok, Err}
+use Rattle.std.specs.List.{AllZip}
+use Rattle.object_name.specs.Name.{ObjectName}
+use Rattle.object_name.specs.Causes.{Rose, RoseBy}
+use Rattle.thunk_codec.specs.declared.job.Job.{Job}
+use Rattle.thunk_codec.specs.declared.job.Outcome.{Outcome}
+use Rattle.thunk_codec.specs.Outcome.{Fits}
+use Rattle.blob_store.specs.Store.{Store, Write, written}
+use Rattle.need_eval.specs.declared.fault.EvalFault.{EvalFault}
+use Rattle.need_eval.specs.declared.fault.EvalFault.TheVariants as faults
+use Rattle.need_eval.specs.declared.evaluating.Values.{Values}
+use Rattle.need_eval.specs.Eval.{State, Stop, Refused, NotBuilt, Clash, Ended, Got, Stopped}
+
+-- the state in which an evaluation ended
+abbrev pub state_after : {A : Type 0} → Ended A → State
+state_after (Got x s) = s
+state_after (Stopped why s) = s
+
+-- the store has a front of the writes that the evaluation makes from this state on
+pub record IsPartWay {A : Type 0} (s : State) (e : Ended A) (now : Store) : Type 0 where
+  pub front : List Write
+  pub others : List Write
+  pub list : (state_after e).writes ≡ s.writes ++ (front ++ others)
+  pub kept : now ≡ written s.store front
+
+-- the evaluation stops so, and the store is as it leaves it
+pub record StopsWith {A : Type 0} (why : Stop) (e : Ended A) (now : Store) : Type 0 where
+  pub last : State
+  pub stopped : e ≡ Stopped why last
+  pub store : now ≡ last.store
+
+-- what was done up to a fault
+abbrev pub Stops : {A : Type 0} → State → Ended A → Store → EvalFault → Type 0
+Stops s e now (faults.Refused refusal) = StopsWith (Refused refusal) e now
+Stops s e now (faults.NotBuilt name) = StopsWith (NotBuilt name) e now
+Stops s e now (faults.Clash name found fresh) = StopsWith (Clash name found fresh) e now
+Stops s e now faults.StoreFailed = IsPartWay s e now
+Stops s e now faults.RunFailed = IsPartWay s e now
+Stops s e now faults.Memory = IsPartWay s e now
+
+-- the evaluation gives this, and the store is as it leaves it
+pub record Gives {A : Type 0} (x : A) (steps : ℕ) (e : Ended A) (now : Store) : Type 0 where
+  pub last : State
+  pub got : e ≡ Got x last
+  pub steps_used : steps ≡ last.steps
+  pub store : now ≡ last.store
+
+-- what a call that evaluates did, by its answer
+abbrev pub Does : State → Ended (List ObjectName) → Store → Result Values EvalFault → Type 0
+Does s e now (Ok values) = Gives values.names values.steps e now
+Does s e now (Err fault) = Stops s e now fault
+
+-- each outcome fits its job, and is the function's where that is told
+abbrev pub AreAnswers : (Job → Type 0) → (Job → Outcome) → List Job → List Outcome → Type 0
+AreAnswers tells outcome jobs given = AllZip (λ job o. Fits job o × (tells job → o ≡ outcome job)) jobs given
+
+-- faults come only where a count rose: the keeper's by more than the retries, or the runner's
+abbrev pub EvalCause : ℕ → ℕ → ℕ → ℕ → ℕ → Result Values EvalFault → Type 0
+EvalCause retries kept_before kept_after run_before run_after (Ok values) = Unit {0}
+EvalCause retries kept_before kept_after run_before run_after (Err (faults.Refused refusal)) = Unit {0}
+EvalCause retries kept_before kept_after run_before run_after (Err (faults.NotBuilt name)) = Unit {0}
+EvalCause retries kept_before kept_after run_before run_after (Err (faults.Clash name found fresh)) = Unit {0}
+EvalCause retries kept_before kept_after run_before run_after (Err faults.StoreFailed) = RoseBy retries kept_before kept_after
+EvalCause retries kept_before kept_after run_before run_after (Err faults.RunFailed) = Rose run_before run_after
+EvalCause retries kept_before kept_after run_before run_after (Err faults.Memory) = Unit {0}
