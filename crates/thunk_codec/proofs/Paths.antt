@@ -1,8 +1,10 @@
 -- Normal paths are read as they stand.
-use Rattle.std.proofs.Common.{◌≡◌, ◌≢◌, ℕ, zero, suc, ◌+◌, ◌<◌, ◌≤◌, Bool, true, false, not, cond, eqb, leb, ◌&&◌, ◌||◌, List, [], ◌∷◌, ◌++◌, ◌-◌, length, reverse, take, drop, get_or, Option, Some, None, refl, sym, ap, subst, ◌∙◌, arith, append_assoc, inl, inr}
+use Rattle.std.proofs.Common.{◌≡◌, ◌≢◌, ℕ, zero, suc, ◌+◌, ◌<◌, ◌≤◌, Bool, true, false, not, cond, eqb, leb, ◌&&◌, ◌||◌, List, [], ◌∷◌, ◌++◌, ◌-◌, length, reverse, take, drop, get_or, length-append, Option, Some, None, refl, sym, ap, subst, ◌∙◌, arith, append_assoc, inl, inr}
 use Rattle.std.specs.Prelude.{IsTrue, codes, bytes_eq}
 use Rattle.std.specs.List.{list_all, join_with_byte, slice_split, onto_first, All, AllByRecursion, before_last, suffix_len, prefix_len}
-use Rattle.std.proofs.lemmas.List.{reverse-reverse, reverse-append, take-append-drop, drop_more, length-take, get_or-take, take_at, take-append-le, length_push}
+use Rattle.std.proofs.lemmas.List.{reverse-reverse, reverse-append, take-append-drop, drop_more, length-take, get_or-take, take_at, take-append-le, length_push, get_or-append_right, get_or_at}
+use Rattle.std.proofs.lemmas.List.Sums.{suffix_len_is}
+use Rattle.std.proofs.lemmas.Grind.{reverse_onto}
 use Rattle.std.proofs.lemmas.List.Elements.{All-from_recursion, All-from_get_or}
 use Rattle.std.proofs.lemmas.List.Folds.{list_all-append}
 use Rattle.std.proofs.lemmas.Bool.Decides.{not_from_Decides}
@@ -205,3 +207,72 @@ before_last_other front byte other =
     let n : suffix_len (λ x. not (is_slash x)) (front ++ byte ∷ []) ≡ 1 + suffix_len (λ x. not (is_slash x)) front = ap (prefix_len (λ x. not (is_slash x))) (reverse-append front (byte ∷ [])) ∙ rw (ne_eqb byte 47 other) refl in
     let at : length (front ++ byte ∷ []) - suffix_len (λ x. not (is_slash x)) (front ++ byte ∷ []) - 1 ≡ length front - suffix_len (λ x. not (is_slash x)) front - 1 = omega (arith, n, length_push front byte) in
     rw at (take-append-le _ front (byte ∷ []) (omega arith))
+
+plain_at : (piece : List ℕ) (k : ℕ) → is_plain piece ≡ true → k < length piece → is_slash (get_or piece k 0) ≡ false
+plain_at piece k h lt = no_slash_all piece h k 0 lt
+
+-- what stands before the last slash of a path with one more component
+before_last_more : (path last : List ℕ) → is_plain last ≡ true → before_last is_slash (path ++ 47 ∷ last) ≡ path
+before_last_more path last h =
+    let whole : length (path ++ 47 ∷ last) ≡ length path + (1 + length last) = length-append path (47 ∷ last) ∙ omega arith in
+    let behind : (k : ℕ) → length path + 1 ≤ k → k < length (path ++ 47 ∷ last) → not (is_slash (get_or (path ++ 47 ∷ last) k 0)) ≡ true
+        = λ k low high. not_from_false _ (ap is_slash (get_or-append_right path (47 ∷ last) (length path) k 0 refl (omega (arith, low)) ∙ ap (λ (n : ℕ). get_or (47 ∷ last) n 0) (let n : k - length path ≡ suc (k - length path - 1) = omega (arith, low) in n)) ∙ plain_at last (k - length path - 1) h (omega (arith, whole, low, high))) in
+    let slash : 0 < length path + 1 → not (is_slash (get_or (path ++ 47 ∷ last) (length path + 1 - 1) 0)) ≡ false
+        = λ _. ap (λ (n : ℕ). not (is_slash (get_or (path ++ 47 ∷ last) n 0))) (let n : length path + 1 - 1 ≡ length path = omega arith in n) ∙ ap (λ (b : ℕ). not (is_slash b)) (get_or_at path 47 last 0 (length path) refl) in
+    let len = suffix_len_is (λ x. not (is_slash x)) (path ++ 47 ∷ last) (length path + 1) 0 (omega (arith, whole)) behind slash in
+    take_at path (47 ∷ last) _ (omega (arith, whole, len))
+
+before_last_plain : (last : List ℕ) → is_plain last ≡ true → before_last is_slash last ≡ []
+before_last_plain last h =
+    let len = suffix_len_is (λ x. not (is_slash x)) last 0 0 (omega arith) (λ k low high. not_from_false _ (plain_at last k h high)) (λ lt. absurd (omega (arith, lt))) in
+    let n : length last - suffix_len (λ x. not (is_slash x)) last - 1 ≡ 0 = omega (arith, len) in
+    rw n refl
+
+before_last_component : (path last : List ℕ) → is_plain last ≡ true → before_last is_slash (with_component path last) ≡ path
+before_last_component [] last h = before_last_plain last h
+before_last_component (byte ∷ path) last h = before_last_more (byte ∷ path) last h
+
+-- ---- one more component
+
+with_component_some : (path piece : List ℕ) → (path ≡ [] → ⊥) → with_component path piece ≡ path ++ 47 ∷ piece
+with_component_some [] piece some = absurd (some refl)
+with_component_some (byte ∷ path) piece some = refl
+
+join_some : (first : List ℕ) (others : List (List ℕ)) → is_component first ≡ true → join_with_byte 47 (first ∷ others) ≡ [] → ⊥
+join_some [] others h e = absurd cc
+join_some (byte ∷ first) [] h e = cc
+join_some (byte ∷ first) (second ∷ others) h e = cc
+
+join_push : (pieces : List (List ℕ)) (piece : List ℕ) → list_all is_component pieces ≡ true → join_with_byte 47 (pieces ++ piece ∷ []) ≡ with_component (join_with_byte 47 pieces) piece
+join_push [] piece h = refl
+join_push (first ∷ []) piece h = sym (with_component_some first piece (join_some first [] (and_parts (is_component first) true h).0))
+join_push (first ∷ second ∷ others) piece h =
+    let parts = and_parts (is_component first) (list_all is_component (second ∷ others)) h in
+    let later = join_push (second ∷ others) piece parts.1 in
+    let some = join_some second others (and_parts (is_component second) (list_all is_component others) parts.1).0 in
+    ap (λ (v : List ℕ). first ++ 47 ∷ v) (later ∙ with_component_some (join_with_byte 47 (second ∷ others)) piece some)
+        ∙ sym (append_assoc first (47 ∷ join_with_byte 47 (second ∷ others)) (47 ∷ piece))
+        ∙ sym (with_component_some (first ++ 47 ∷ join_with_byte 47 (second ∷ others)) piece (join_some first (second ∷ others) parts.0))
+
+reversed_components : (components : List (List ℕ)) → list_all is_component components ≡ true → list_all is_component (reverse components) ≡ true
+reversed_components components h = list_all-reverse_aux is_component components [] h refl
+
+pub joined-cons : (piece : List ℕ) (before : List (List ℕ)) → list_all is_component before ≡ true → joined (piece ∷ before) ≡ with_component (joined before) piece
+joined-cons piece before h =
+    ap (join_with_byte 47) (reverse_onto before piece []) ∙ join_push (reverse before) piece (reversed_components before h)
+
+-- the last component taken away
+pub joined_before : (last : List ℕ) (before : List (List ℕ)) → list_all is_component (last ∷ before) ≡ true → before_last is_slash (joined (last ∷ before)) ≡ joined before
+joined_before last before h =
+    let parts = and_parts (is_component last) (list_all is_component before) h in
+    ap (before_last is_slash) (joined-cons last before parts.1) ∙ before_last_component (joined before) last (component_plain last parts.0)
+
+join_not_empty : (pieces components : List (List ℕ)) → reverse components ≡ pieces → list_all is_component components ≡ true → join_with_byte 47 pieces ≡ [] → (components ≡ [])
+join_not_empty [] components e h empty = sym (reverse-reverse components) ∙ ap reverse e
+join_not_empty (first ∷ others) components e h empty =
+    let good : list_all is_component (first ∷ others) ≡ true = subst (λ (v : List (List ℕ)). list_all is_component v ≡ true) e (reversed_components components h) in
+    absurd (join_some first others (and_parts (is_component first) (list_all is_component others) good).0 empty)
+
+-- only no components are joined to an empty path
+pub joined_empty : (components : List (List ℕ)) → list_all is_component components ≡ true → joined components ≡ [] → components ≡ []
+joined_empty components h empty = join_not_empty (reverse components) components refl h empty
