@@ -3,11 +3,13 @@
 
 mod bytes;
 mod kind;
+pub mod laws;
 mod many;
 mod mem_sink;
 mod name;
 mod number;
 mod sink;
+mod spelling;
 mod trouble;
 mod try_copy;
 
