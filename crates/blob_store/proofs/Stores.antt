@@ -3,7 +3,7 @@ use Rattle.std.proofs.Common.{◌≡◌, ◌⊎◌, inl, inr, ℕ, Bool, true, f
 use Rattle.std.specs.Prelude.{bytes_eq, option_and_then, is_some}
 use Rattle.std.proofs.lemmas.Slice.Eq.{bytes_eq-Decides}
 use Rattle.object_name.specs.Name.{ObjectName, name_of, name_cmp}
-use Rattle.blob_store.specs.Keeping.{MayWrite, MayStore, HasStored, Stores, Clashes}
+use Rattle.blob_store.specs.Keeping.{MayWrite}
 use Rattle.blob_store.specs.Store.{Store, Contents, Write, put, if_named, held, after_write, written, own_write, other_held, storing}
 use Rattle.blob_store.specs.Store.Write.{Object, Note}
 use Rattle.std.specs.Ordering.{eq_by_cmp}
@@ -49,41 +49,75 @@ MayWrite-again old now new write (inl e) (inl f) = inl (f ∙ e)
 MayWrite-again old now new write (inr e) (inl f) = inr (f ∙ e)
 MayWrite-again old now new write may (inr f) = inr (made_again old now new write may f)
 
+-- the writes of two lists are those of the first, then those of the second
+pub written-append : (store : Store) (first second : List Write) → written store (first ++ second) ≡ written (written store first) second
+written-append store [] second = refl
+written-append store (write ∷ first) second = written-append (after_write store write) first second
+
+-- ---- what is held after a write
+
+-- a step after a choice of a value
+chain-cond : {A B : Type 0} (f : A → Option B) (b : Bool) (x : A) (o : Option A) → option_and_then f (cond b (Some x) o) ≡ cond b (f x) (option_and_then f o)
+chain-cond f true x o = refl
+chain-cond f false x o = refl
+
+-- after a put the bytes are held under their name, and under other names what was held
+pub held-put : (contents : Contents) (name : ObjectName) (bytes : List ℕ) (other : ObjectName) →
+    held (put contents name bytes) other ≡ cond (eq_by_cmp name_cmp other name) (if_named other bytes) (held contents other)
+held-put contents name bytes other = chain-cond (if_named other) (eq_by_cmp name_cmp other name) bytes (contents other)
+
+-- an object that was put under its name is held
+pub held-put-own : (contents : Contents) (bytes : List ℕ) → held (put contents (name_of bytes) bytes) (name_of bytes) ≡ Some bytes
+held-put-own contents bytes =
+    held-put contents (name_of bytes) bytes (name_of bytes)
+    ∙ ap (λ (b : Bool). cond b (if_named (name_of bytes) bytes) (held contents (name_of bytes))) (name_cmp-same (name_of bytes))
+    ∙ if_named-own (name_of bytes) bytes refl
+
+-- a put changes nothing that is held under other names
+pub held-put-other : (contents : Contents) (name : ObjectName) (bytes : List ℕ) (other : ObjectName) → (other ≡ name → ⊥) → held (put contents name bytes) other ≡ held contents other
+held-put-other contents name bytes other differ =
+    held-put contents name bytes other ∙ ap (λ (b : Bool). cond b (if_named other bytes) (held contents other)) (eq_by_cmp-other other name differ)
+
 -- ---- storing
 
--- bytes equal themselves
-bytes_eq-same : (bytes : List ℕ) → bytes_eq bytes bytes ≡ true
-bytes_eq-same bytes = (bytes_eq-Decides bytes bytes).1 refl
+-- bytes that are not other than these are these
+equal_found : (found bytes : List ℕ) → cond (bytes_eq found bytes) None (Some found) ≡ None → found ≡ bytes
+equal_found found bytes none =
+    (bytes_eq-Decides found bytes).0
+    (elim (bytes_eq found bytes) as (λ b. cond b None (Some found) ≡ None → b ≡ true) [ true ↦ λ e. refl | false ↦ λ e. cc e ] none)
 
--- bytes that differ don't
-bytes_eq-other : (found bytes : List ℕ) → (found ≡ bytes → ⊥) → bytes_eq found bytes ≡ false
-bytes_eq-other found bytes differ = untrue (bytes_eq found bytes) (λ e. differ ((bytes_eq-Decides found bytes).0 e))
+-- where nothing of their name is held, storing writes the object
+pub storing-new : (store : Store) (bytes : List ℕ) → held store.objects (name_of bytes) ≡ None → written store (storing store bytes) ≡ after_write store (own_write bytes)
+storing-new store bytes none = ap (λ (o : Option (List ℕ)). written store (cond (is_some o) [] (own_write bytes ∷ []))) none
 
--- where nothing of their name is held, storing makes one write
-pub Stores-new : (old : Store) (bytes : List ℕ) (new : Store) → held old.objects (name_of bytes) ≡ None → new ≡ after_write old (own_write bytes) → Stores old bytes new
-Stores-new old bytes new none made =
-    record {
-      no_other = ap (option_and_then (λ (found : List ℕ). cond (bytes_eq found bytes) None (Some found))) none;
-      made = made ∙ ap (λ (o : Option (List ℕ)). written old (cond (is_some o) [] (own_write bytes ∷ []))) (sym none);
-    }
+-- where an object of their name is held, it writes nothing
+pub storing-held : (store : Store) (bytes found : List ℕ) → held store.objects (name_of bytes) ≡ Some found → written store (storing store bytes) ≡ store
+storing-held store bytes found some = ap (λ (o : Option (List ℕ)). written store (cond (is_some o) [] (own_write bytes ∷ []))) some
 
--- where they are held, it makes none
-pub Stores-held : (old : Store) (bytes : List ℕ) (new : Store) → held old.objects (name_of bytes) ≡ Some bytes → new ≡ old → Stores old bytes new
-Stores-held old bytes new some same =
-    record {
-      no_other = ap (option_and_then (λ (found : List ℕ). cond (bytes_eq found bytes) None (Some found))) some ∙ ap (λ (b : Bool). cond b None (Some bytes)) (bytes_eq-same bytes);
-      made = same ∙ ap (λ (o : Option (List ℕ)). written old (cond (is_some o) [] (own_write bytes ∷ []))) (sym some);
-    }
+-- where no other bytes are held under their name, they are held after storing
+pub held-storing-own : (store : Store) (bytes : List ℕ) → other_held store bytes ≡ None → held (written store (storing store bytes)).objects (name_of bytes) ≡ Some bytes
+held-storing-own store bytes no_other =
+    elim (held store.objects (name_of bytes)) as (λ o. held store.objects (name_of bytes) ≡ o → held (written store (storing store bytes)).objects (name_of bytes) ≡ Some bytes) [
+      | None ↦ λ none. ap (λ (s : Store). held s.objects (name_of bytes)) (storing-new store bytes none) ∙ held-put-own store.objects bytes
+      | Some found ↦ λ some.
+          ap (λ (s : Store). held s.objects (name_of bytes)) (storing-held store bytes found some) ∙ some
+          ∙ ap Some (equal_found found bytes (ap (option_and_then (λ (f : List ℕ). cond (bytes_eq f bytes) None (Some f))) (sym some) ∙ no_other))
+    ] refl
 
--- where other bytes of their name are held, they clash
-pub Clashes-found : (old : Store) (bytes : List ℕ) (new : Store) (found : List ℕ) → held old.objects (name_of bytes) ≡ Some found → (found ≡ bytes → ⊥) → new ≡ old → Clashes old bytes new found
-Clashes-found old bytes new found some differ same =
-    record {
-      other = ap (option_and_then (λ (f : List ℕ). cond (bytes_eq f bytes) None (Some f))) some ∙ ap (λ (b : Bool). cond b None (Some found)) (bytes_eq-other found bytes differ);
-      same = same;
-    }
+-- what was held stays held: storing displaces nothing
+pub held-storing : (store : Store) (bytes : List ℕ) (name : ObjectName) (kept : List ℕ) → held store.objects name ≡ Some kept → held (written store (storing store bytes)).objects name ≡ Some kept
+held-storing store bytes name kept was =
+    elim (held store.objects (name_of bytes)) as (λ o. held store.objects (name_of bytes) ≡ o → held (written store (storing store bytes)).objects name ≡ Some kept) [
+      | None ↦ λ none.
+          let differ : name ≡ name_of bytes → ⊥ = λ e. cc (sym was ∙ ap (held store.objects) e ∙ none) in
+          ap (λ (s : Store). held s.objects name) (storing-new store bytes none) ∙ held-put-other store.objects (name_of bytes) bytes name differ ∙ was
+      | Some found ↦ λ some. ap (λ (s : Store). held s.objects name) (storing-held store bytes found some) ∙ was
+    ] refl
 
--- a write that failed where nothing of their name was held
-pub MayStore-write : (old : Store) (bytes : List ℕ) (new : Store) → held old.objects (name_of bytes) ≡ None → MayWrite old (own_write bytes) new → MayStore old bytes new
-MayStore-write old bytes new none (inl e) = inl e
-MayStore-write old bytes new none (inr e) = inr (record { free = none; made = e })
+-- storing leaves the notes
+pub notes-storing : (store : Store) (bytes : List ℕ) → (written store (storing store bytes)).notes ≡ store.notes
+notes-storing store bytes =
+    elim (held store.objects (name_of bytes)) as (λ o. held store.objects (name_of bytes) ≡ o → (written store (storing store bytes)).notes ≡ store.notes) [
+      | None ↦ λ none. ap (λ (s : Store). s.notes) (storing-new store bytes none)
+      | Some found ↦ λ some. ap (λ (s : Store). s.notes) (storing-held store bytes found some)
+    ] refl
