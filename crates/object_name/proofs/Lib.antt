@@ -1,1 +1,4 @@
 pub mod SpellingLemmas
+pub mod NameLemmas
+pub mod NumberLemmas
+pub mod NameOrder
