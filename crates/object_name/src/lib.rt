@@ -2,6 +2,7 @@
 #![tactic(auto)]
 
 mod bytes;
+mod calls;
 mod kind;
 pub mod laws;
 mod many;
@@ -12,8 +13,10 @@ mod sink;
 mod spelling;
 mod trouble;
 mod try_copy;
+mod write_sink;
 
 pub use bytes::Bytes;
+pub use calls::Calls;
 pub use kind::{Kind, kind_of};
 pub use many::Many;
 pub use mem_sink::MemSink;
@@ -22,3 +25,4 @@ pub use number::{read_number, write_number};
 pub use sink::{Sink, write_all};
 pub use trouble::Trouble;
 pub use try_copy::TryCopy;
+pub use write_sink::WriteSink;
