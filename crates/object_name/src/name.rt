@@ -1,11 +1,16 @@
 //! Names of objects by their content.
 
 ghost use Rattle.std.specs.Prelude.{◌≡◌, ◌≤◌, ◌↔◌, length, Some, IsOk, IfOk, IfErr, IfSome};
-ghost use Rattle.object_name.specs.Name.{ObjectName, IsName, max_size, name_of, named_by, spelling};
+ghost use Rattle.std.proofs.Common.{rules};
+ghost use Rattle.std.specs.Cmp.{partial_order_from_own_ties};
+ghost use Rattle.std.specs.Cmp.Rules.{comparing};
+ghost use Rattle.std.specs.Ordering.{as_partial_cmp};
+ghost use Rattle.object_name.specs.Name.{ObjectName, IsName, max_size, name_cmp, name_of, named_by, spelling};
 
 use crate::kind::{Kind, kind_of};
 use crate::spelling::{read_digest, read_size, spell_digest, spell_size};
 use sha2::{Digest, Sha256};
+use std::cmp::Ordering;
 use std::marker::Model;
 
 /// The greatest size of an object, in bytes.
@@ -36,6 +41,34 @@ impl Model for Name {
     ghost invariant = { λ n. n.size ≤ max_size };
 
     ghost inverse = { λ n. record { kind = n.kind; digest = n.digest; size = n.size } };
+}
+
+impl Ord for Name {
+    ghost cmp = { name_cmp };
+
+    ghost total = { Prim.search (comparing, rules) };
+
+    ghost matches_partial_cmp = { Prim.search (comparing, rules) };
+
+    ghost matches_eq = { Prim.search (comparing, rules) };
+
+    fn cmp(&self, other: &Name) -> Ordering {
+        self.digest
+            .as_slice()
+            .cmp(&other.digest.as_slice())
+            .then(self.size.cmp(&other.size))
+            .then(self.kind.rank().cmp(&other.kind.rank()))
+    }
+}
+
+impl PartialOrd for Name {
+    ghost partial_cmp = { as_partial_cmp name_cmp };
+
+    ghost laws = { partial_order_from_own_ties (Prim.search (comparing, rules)) (Prim.search (comparing, rules)) };
+
+    fn partial_cmp(&self, other: &Name) -> Option<Ordering> {
+        Some(self.cmp(other))
+    }
 }
 
 /// Bytes over the greatest size of an object have no name.
