@@ -1,18 +1,20 @@
 -- Normal paths are read as they stand.
-use Rattle.std.proofs.Common.{◌≡◌, ◌≢◌, ℕ, zero, suc, ◌+◌, ◌<◌, ◌≤◌, Bool, true, false, not, cond, eqb, leb, ◌&&◌, ◌||◌, List, [], ◌∷◌, ◌++◌, ◌-◌, length, reverse, take, drop, get_or, length-append, Option, Some, None, refl, sym, ap, subst, ◌∙◌, arith, append_assoc, inl, inr}
-use Rattle.std.specs.Prelude.{IsTrue, codes, bytes_eq}
-use Rattle.std.specs.List.{list_all, join_with_byte, slice_split, onto_first, All, AllByRecursion, before_last, suffix_len, prefix_len}
-use Rattle.std.proofs.lemmas.List.{reverse-reverse, reverse-append, take-append-drop, drop_more, length-take, get_or-take, take_at, take-append-le, length_push, get_or-append_right, get_or_at}
+use Rattle.std.proofs.Common.{◌≡◌, ℕ, suc, ◌+◌, ◌<◌, ◌≤◌, Bool, true, false, not, leb, ◌&&◌, ◌||◌, List, [], ◌∷◌, ◌++◌, ◌-◌, length, reverse, take, drop, get_or, length-append, Option, Some, None, refl, sym, ap, subst, ◌∙◌, arith, append_assoc, inl, inr}
+use Rattle.std.specs.Prelude.{MatchOption, codes, bytes_eq}
+use Rattle.std.specs.List.{list_all, join_with_byte, onto_first, All, AllByRecursion, before_last, suffix_len, prefix_len}
+use Rattle.std.proofs.lemmas.List.{reverse-reverse, reverse-append, take-append-drop, drop_more, length-take, get_or-take, take_at, take-append-le, length_push, get_or-append_right, get_or_at, take_rest}
 use Rattle.std.proofs.lemmas.List.Sums.{suffix_len_is}
 use Rattle.std.proofs.lemmas.Grind.{reverse_onto}
 use Rattle.std.proofs.lemmas.List.Elements.{All-from_recursion, All-from_get_or}
 use Rattle.std.proofs.lemmas.List.Folds.{list_all-append}
 use Rattle.std.proofs.lemmas.Bool.Decides.{not_from_Decides}
 use mathlib.Core.List.{reverse_aux}
-use Rattle.std.proofs.lemmas.Bool.{and_parts, and_from, or_parts, cases_Bool, not_from_false, not-true, ne_eqb}
+use Rattle.std.proofs.lemmas.Bool.{and_parts, and_from, or_parts, cases_Bool, not_from_false, not-true, ne_eqb, true≢false, false≢true, false_from_ne_true, le-leb}
 use Rattle.std.proofs.lemmas.Option.{same_Some}
 use Rattle.std.proofs.lemmas.Slice.Eq.{bytes_eq-Decides}
 use Rattle.std.proofs.lemmas.List.Splits.{slice_split_at, slice_split_none}
+use Rattle.std.specs.Option.{option_map}
+use denote.Ref.{Bor}
 use Rattle.thunk_codec.specs.Maybe.{◌>>=◌, ◌>>◌}
 use Rattle.thunk_codec.specs.Components.{is_plain_byte, is_plain, is_component, with_component}
 use Rattle.thunk_codec.specs.Path.{is_slash, pieces_of, joined, without_last, after_piece, after_pieces, is_printable, components_of, path_of, is_path, is_same_path, max_path}
@@ -50,9 +52,9 @@ piece_components before next piece h plain e =
     elim (cases_Bool (bytes_eq piece [] || bytes_eq piece (codes "."))) [
       | inl drops ↦ subst (λ (v : List (List ℕ)). list_all is_component v ≡ true) (same_Some before next (rw drops at e)) h
       | inr stays ↦ elim (cases_Bool (bytes_eq piece (codes ".."))) [
-          | inl climbs ↦ without_last_component before next h (rw (stays, climbs) at e)
-          | inr adds ↦ subst (λ (v : List (List ℕ)). list_all is_component v ≡ true) (same_Some (piece ∷ before) next (rw (stays, adds) at e)) (and_from _ _ (kept_component piece stays adds plain) h)
-        ]
+        | inl climbs ↦ without_last_component before next h (rw (stays, climbs) at e)
+        | inr adds ↦ subst (λ (v : List (List ℕ)). list_all is_component v ≡ true) (same_Some (piece ∷ before) next (rw (stays, adds) at e)) (and_from _ _ (kept_component piece stays adds plain) h)
+      ]
     ]
 
 pieces_components : (before next : List (List ℕ)) (pieces : List (List ℕ)) → list_all is_component before ≡ true → list_all is_plain pieces ≡ true → after_pieces before pieces ≡ Some next → list_all is_component next ≡ true
@@ -216,9 +218,9 @@ before_last_more : (path last : List ℕ) → is_plain last ≡ true → before_
 before_last_more path last h =
     let whole : length (path ++ 47 ∷ last) ≡ length path + (1 + length last) = length-append path (47 ∷ last) ∙ omega arith in
     let behind : (k : ℕ) → length path + 1 ≤ k → k < length (path ++ 47 ∷ last) → not (is_slash (get_or (path ++ 47 ∷ last) k 0)) ≡ true
-        = λ k low high. not_from_false _ (ap is_slash (get_or-append_right path (47 ∷ last) (length path) k 0 refl (omega (arith, low)) ∙ ap (λ (n : ℕ). get_or (47 ∷ last) n 0) (let n : k - length path ≡ suc (k - length path - 1) = omega (arith, low) in n)) ∙ plain_at last (k - length path - 1) h (omega (arith, whole, low, high))) in
+    = λ k low high. not_from_false _ (ap is_slash (get_or-append_right path (47 ∷ last) (length path) k 0 refl (omega (arith, low)) ∙ ap (λ (n : ℕ). get_or (47 ∷ last) n 0) (let n : k - length path ≡ suc (k - length path - 1) = omega (arith, low) in n)) ∙ plain_at last (k - length path - 1) h (omega (arith, whole, low, high))) in
     let slash : 0 < length path + 1 → not (is_slash (get_or (path ++ 47 ∷ last) (length path + 1 - 1) 0)) ≡ false
-        = λ _. ap (λ (n : ℕ). not (is_slash (get_or (path ++ 47 ∷ last) n 0))) (let n : length path + 1 - 1 ≡ length path = omega arith in n) ∙ ap (λ (b : ℕ). not (is_slash b)) (get_or_at path 47 last 0 (length path) refl) in
+    = λ _. ap (λ (n : ℕ). not (is_slash (get_or (path ++ 47 ∷ last) n 0))) (let n : length path + 1 - 1 ≡ length path = omega arith in n) ∙ ap (λ (b : ℕ). not (is_slash b)) (get_or_at path 47 last 0 (length path) refl) in
     let len = suffix_len_is (λ x. not (is_slash x)) (path ++ 47 ∷ last) (length path + 1) 0 (omega (arith, whole)) behind slash in
     take_at path (47 ∷ last) _ (omega (arith, whole, len))
 
@@ -251,8 +253,8 @@ join_push (first ∷ second ∷ others) piece h =
     let later = join_push (second ∷ others) piece parts.1 in
     let some = join_some second others (and_parts (is_component second) (list_all is_component others) parts.1).0 in
     ap (λ (v : List ℕ). first ++ 47 ∷ v) (later ∙ with_component_some (join_with_byte 47 (second ∷ others)) piece some)
-        ∙ sym (append_assoc first (47 ∷ join_with_byte 47 (second ∷ others)) (47 ∷ piece))
-        ∙ sym (with_component_some (first ++ 47 ∷ join_with_byte 47 (second ∷ others)) piece (join_some first (second ∷ others) parts.0))
+    ∙ sym (append_assoc first (47 ∷ join_with_byte 47 (second ∷ others)) (47 ∷ piece))
+    ∙ sym (with_component_some (first ++ 47 ∷ join_with_byte 47 (second ∷ others)) piece (join_some first (second ∷ others) parts.0))
 
 reversed_components : (components : List (List ℕ)) → list_all is_component components ≡ true → list_all is_component (reverse components) ≡ true
 reversed_components components h = list_all-reverse_aux is_component components [] h refl
@@ -276,3 +278,119 @@ join_not_empty (first ∷ others) components e h empty =
 -- only no components are joined to an empty path
 pub joined_empty : (components : List (List ℕ)) → list_all is_component components ≡ true → joined components ≡ [] → components ≡ []
 joined_empty components h empty = join_not_empty (reverse components) components refl h empty
+
+-- ---- one more piece
+
+-- whether there is a path after a piece, and which
+abbrev pub Follows : Option (List (List ℕ)) → Bool → List ℕ → Type 0
+Follows next fine path = MatchOption next (fine ≡ false) (λ after. (fine ≡ true) × (path ≡ joined after))
+
+pub piece_adds : (before : List (List ℕ)) (piece path after : List ℕ) → list_all is_component before ≡ true → path ≡ joined before
+    → (bytes_eq piece [] || bytes_eq piece (codes ".")) ≡ false → bytes_eq piece (codes "..") ≡ false → after ≡ with_component path piece
+    → Follows (after_piece before piece) true after
+piece_adds before piece path after h is stays adds more =
+    rw (stays, adds) (refl, more ∙ ap (λ (v : List ℕ). with_component v piece) is ∙ sym (joined-cons piece before h))
+
+climb_from_none : (before : List (List ℕ)) (path : List ℕ) → before ≡ [] → Follows (without_last before) false path
+climb_from_none [] path e = refl
+climb_from_none (last ∷ before) path e = absurd cc
+
+pub piece_fails : (before : List (List ℕ)) (piece path : List ℕ) → list_all is_component before ≡ true → path ≡ joined before
+    → (bytes_eq piece [] || bytes_eq piece (codes ".")) ≡ false → bytes_eq piece (codes "..") ≡ true → path ≡ []
+    → Follows (after_piece before piece) false path
+piece_fails before piece path h is stays climbs empty =
+    rw (stays, climbs) (climb_from_none before path (joined_empty before h (sym is ∙ empty)))
+
+climb_from_some : (before : List (List ℕ)) (path after : List ℕ) → list_all is_component before ≡ true → path ≡ joined before → (path ≡ [] → ⊥) → after ≡ before_last is_slash path
+    → Follows (without_last before) true after
+climb_from_some [] path after h is some less = absurd (some is)
+climb_from_some (last ∷ before) path after h is some less = (refl, less ∙ ap (before_last is_slash) is ∙ joined_before last before h)
+
+pub piece_climbs : (before : List (List ℕ)) (piece path after : List ℕ) → list_all is_component before ≡ true → path ≡ joined before
+    → (bytes_eq piece [] || bytes_eq piece (codes ".")) ≡ false → bytes_eq piece (codes "..") ≡ true → (path ≡ [] → ⊥) → after ≡ before_last is_slash path
+    → Follows (after_piece before piece) true after
+piece_climbs before piece path after h is stays climbs some less = rw (stays, climbs) (climb_from_some before path after h is some less)
+
+pub rest_is : (text : List ℕ) (i : ℕ) → take (length text - (i + 1)) (drop (i + 1) text) ≡ drop (i + 1) text
+rest_is text i = take_rest text (i + 1)
+
+-- some components are read, and the rest of the text gives what is left
+pub record Reads (path rest text : List ℕ) : Type 0 where
+  pub before : List (List ℕ)
+  pub good : list_all is_component before ≡ true
+  pub path_is : path ≡ joined before
+  pub plain : list_all is_plain (pieces_of rest) ≡ true
+  pub goes_on : after_pieces before (pieces_of rest) ≡ after_pieces [] (pieces_of text)
+
+pub Reads-none : (text : List ℕ) → list_all is_printable text ≡ true → Reads [] text text
+Reads-none text h = record { before = []; good = refl; path_is = refl; plain = plain_pieces text h; goes_on = refl }
+
+-- the pieces after a piece
+abbrev pub Pieces : List ℕ → List ℕ → Option (Bor (List ℕ)) → Type 0
+Pieces rest piece after = MatchOption after (pieces_of rest ≡ piece ∷ []) (λ next. (pieces_of rest ≡ piece ∷ pieces_of next.now) × (length next.now < length rest))
+
+some_pieces : (rest piece : List ℕ) (after : Option (Bor (List ℕ))) → Pieces rest piece after → (others : List (List ℕ)) × (pieces_of rest ≡ piece ∷ others)
+some_pieces rest piece None h = ([], h)
+some_pieces rest piece (Some next) h = (pieces_of next.now, h.0)
+
+follows_none : (next : Option (List (List ℕ))) (path : List ℕ) → Follows next false path → next ≡ None
+follows_none None path h = refl
+follows_none (Some after) path h = absurd (false≢true h.0)
+
+follows_some : (next : Option (List (List ℕ))) (path : List ℕ) → Follows next true path → (after : List (List ℕ)) × (next ≡ Some after) × (path ≡ joined after)
+follows_some None path h = absurd (true≢false h)
+follows_some (Some after) path h = (after, refl, h.1)
+
+pub last_piece : (rest piece : List ℕ) (after : Option (Bor (List ℕ))) → after ≡ None → Pieces rest piece after → pieces_of rest ≡ piece ∷ []
+last_piece rest piece after e h = subst (λ (v : Option (Bor (List ℕ))). Pieces rest piece v) e h
+
+pub next_piece : (rest piece : List ℕ) (after : Option (Bor (List ℕ))) (next : Bor (List ℕ)) → after ≡ Some next → Pieces rest piece after → pieces_of rest ≡ piece ∷ pieces_of next.now
+next_piece rest piece after next e h = (subst (λ (v : Option (Bor (List ℕ))). Pieces rest piece v) e h).0
+
+step : (before next : List (List ℕ)) (piece : List ℕ) (pieces : List (List ℕ)) → after_piece before piece ≡ Some next → after_pieces before (piece ∷ pieces) ≡ after_pieces next pieces
+unfolding after_pieces
+step before next piece pieces e = rw e refl
+
+pub reading_stops : (path rest text piece new : List ℕ) (after : Option (Bor (List ℕ))) (r : Reads path rest text) → Pieces rest piece after → Follows (after_piece r.before piece) false new
+    → ◌≡◌ {A = Option (List ℕ)} None (option_map joined (after_pieces [] (pieces_of text)))
+unfolding after_pieces
+reading_stops path rest text piece new after r pieces h =
+    let others = some_pieces rest piece after pieces in
+    let none : after_pieces r.before (piece ∷ others.0) ≡ None = rw (follows_none (after_piece r.before piece) new h) refl in
+    ap (option_map joined) (sym none ∙ ap (after_pieces r.before) (sym others.1) ∙ r.goes_on)
+
+pub reading_ends : (path rest text piece new : List ℕ) (r : Reads path rest text) → pieces_of rest ≡ piece ∷ [] → Follows (after_piece r.before piece) true new
+    → Some new ≡ option_map joined (after_pieces [] (pieces_of text))
+unfolding after_pieces
+reading_ends path rest text piece new r pieces h =
+    let next = follows_some (after_piece r.before piece) new h in
+    let some : after_pieces r.before (piece ∷ []) ≡ Some next.0 = step r.before next.0 piece [] next.1 in
+    ap (λ (v : List ℕ). Some v) next.2 ∙ ap (option_map joined) (sym some ∙ ap (after_pieces r.before) (sym pieces) ∙ r.goes_on)
+
+pub reading_goes_on : (path rest text piece new next : List ℕ) (r : Reads path rest text) → pieces_of rest ≡ piece ∷ pieces_of next → Follows (after_piece r.before piece) true new → Reads new next text
+reading_goes_on path rest text piece new next r pieces h =
+    let after = follows_some (after_piece r.before piece) new h in
+    let plain : list_all is_plain (piece ∷ pieces_of next) ≡ true = subst (λ (v : List (List ℕ)). list_all is_plain v ≡ true) pieces r.plain in
+    let parts = and_parts (is_plain piece) (list_all is_plain (pieces_of next)) plain in
+    let one = step r.before after.0 piece (pieces_of next) after.1 in
+    record {
+      before = after.0;
+      good = piece_components r.before after.0 piece r.good parts.0 after.1;
+      path_is = after.2;
+      plain = parts.1;
+      goes_on = sym one ∙ ap (after_pieces r.before) (sym pieces) ∙ r.goes_on;
+    }
+
+-- what is read of a text is its path, where it isn't empty and not too long
+short_path_of : (components : Option (List (List ℕ))) (path : List ℕ) → Some path ≡ option_map joined components → (path ≡ [] → ⊥) → length path ≤ 1024
+    → (components >>= λ found. not (bytes_eq (joined found) []) >> (leb (length (joined found)) max_path >> Some (joined found))) ≡ Some path
+short_path_of None path e some short = absurd cc
+short_path_of (Some found) path e some short =
+    let same : path ≡ joined found = same_Some path (joined found) e in
+    let filled : bytes_eq path [] ≡ false = false_from_ne_true (bytes_eq path []) (λ h. some ((bytes_eq-Decides path []).0 h)) in
+    let fits : leb (length path) max_path ≡ true = le-leb _ _ short in
+    subst (λ (v : List ℕ). (not (bytes_eq v []) >> (leb (length v) max_path >> Some v)) ≡ Some path) same (rw (filled, fits) refl)
+
+pub short_path : (text path : List ℕ) → Some path ≡ option_map joined (components_of text) → (path ≡ [] → ⊥) → length path ≤ 1024 → path_of text ≡ Some path
+unfolding path_of
+short_path text path e some short = short_path_of (components_of text) path e some short

@@ -4,6 +4,7 @@
 mod decoding;
 mod function;
 mod job;
+pub mod laws;
 mod normal;
 mod path;
 mod reference;

@@ -1,8 +1,9 @@
 //! The normal form of a path's text.
 
-ghost use Rattle.std.specs.Prelude.{◌≡◌, ◌∷◌, ◌||◌, ◌<◌, List, ℕ, [], true, false, length, codes, bytes_eq, IfOk, OnOk, MatchOption, option_map};
+ghost use Rattle.std.specs.Prelude.{◌≡◌, ◌∷◌, ◌||◌, ◌<◌, List, ℕ, [], true, false, length, codes, bytes_eq, IfOk, OnOk, MatchOption, slice_index, IsTrue};
 ghost use Rattle.std.specs.List.{list_all, before_last};
-ghost use Rattle.thunk_codec.specs.Path.{is_slash, is_printable, pieces_of, after_piece, after_pieces, joined};
+ghost use Rattle.std.specs.Option.{option_map};
+ghost use Rattle.thunk_codec.specs.Path.{is_slash, is_printable, pieces_of, after_piece, after_pieces, joined, components_of};
 ghost use Rattle.thunk_codec.specs.Components.{is_plain, is_component, with_component};
 
 use object_name::Bytes;
@@ -74,4 +75,51 @@ fn add_piece(path: &mut Bytes, piece: &[u8]) -> Result<bool, AllocError>
     }
     drop_last(path);
     Ok(true)
+}
+
+/// The components of a printable text in normal form, joined.
+fn normal(alloc: Global, text: &[u8]) -> Result<Option<Bytes>, AllocError>
+    requires { list_all is_printable text.now ≡ true }
+    ensures { IfOk result (λ path. path ≡ option_map joined (after_pieces [] (pieces_of text.now))) }
+{
+    let mut path = Bytes::new(alloc);
+    let mut rest = text;
+    'pieces: loop {
+        let (piece, after) = first_piece(rest);
+        if !add_piece(&mut path, piece)? {
+            return Ok(None);
+        }
+        match after {
+            None => return Ok(Some(path)),
+            Some(next) => rest = next,
+        }
+    }
+}
+
+/// Whether a path may have these bytes.
+fn is_printable_text(text: &[u8]) -> bool
+    ensures { result ≡ list_all is_printable text.now }
+{
+    text.iter().all(|byte| 32 <= *byte && *byte <= 126)
+}
+
+/// Whether a text begins with `/`.
+fn begins_with_slash(text: &[u8]) -> bool
+    ensures { result ≡ is_slash (slice_index text.now 0) }
+{
+    !text.is_empty() && text[0] == b'/'
+}
+
+/// The normal path of a text, before its length is looked at.
+#[tactic(auto, unfolding(crate::specs::Path::components_of))]
+pub fn components(alloc: Global, text: &[u8]) -> Result<Option<Bytes>, AllocError>
+    ensures { IfOk result (λ path. path ≡ option_map joined (components_of text.now)) }
+{
+    if begins_with_slash(text) {
+        return Ok(None);
+    }
+    if !is_printable_text(text) {
+        return Ok(None);
+    }
+    normal(alloc, text)
 }
