@@ -1,3 +1,5 @@
 pub mod Names
 pub mod Stores
 pub mod Retries
+pub mod Places
+pub mod KeptLemmas

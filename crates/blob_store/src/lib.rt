@@ -3,6 +3,7 @@
 
 mod fetching;
 mod keeper;
+mod kept;
 mod storing;
 
 pub use fetching::fetch;
