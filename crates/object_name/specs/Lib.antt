@@ -4,3 +4,4 @@ pub mod Name
 pub mod NameCode
 pub mod Causes
 pub mod Streams
+pub mod Calls

@@ -2,6 +2,7 @@
 #![tactic(auto)]
 
 mod bytes;
+mod calls;
 mod kind;
 pub mod laws;
 mod many;
@@ -14,6 +15,7 @@ mod trouble;
 mod try_copy;
 
 pub use bytes::Bytes;
+pub use calls::Calls;
 pub use kind::{Kind, kind_of};
 pub use many::Many;
 pub use mem_sink::MemSink;
