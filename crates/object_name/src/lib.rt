@@ -13,6 +13,7 @@ mod sink;
 mod spelling;
 mod trouble;
 mod try_copy;
+mod write_sink;
 
 pub use bytes::Bytes;
 pub use calls::Calls;
@@ -24,3 +25,4 @@ pub use number::{read_number, write_number};
 pub use sink::{Sink, write_all};
 pub use trouble::Trouble;
 pub use try_copy::TryCopy;
+pub use write_sink::WriteSink;
