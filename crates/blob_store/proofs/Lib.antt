@@ -3,3 +3,4 @@ pub mod Stores
 pub mod Retries
 pub mod Places
 pub mod KeptLemmas
+pub mod MemoryLemmas

@@ -36,6 +36,17 @@ impl Kept {
         }
     }
 
+    /// The map of some pairs. A later one replaces an earlier one of the same name.
+    pub fn from_pairs(alloc: Global, pairs: Many<(Name, Bytes)>) -> Result<Self, AllocError>
+        ensures { IfOk result (λ kept. kept ≡ map_of pairs) }
+    {
+        let mut kept = Kept::new(alloc);
+        'pairs: for (name, bytes) in pairs.0 {
+            kept.put(name, bytes)?;
+        }
+        Ok(kept)
+    }
+
     /// A copy of the bytes under a name.
     pub fn get(&self, alloc: Global, name: &Name) -> Result<Option<Bytes>, AllocError>
         ensures { IfOk result (λ found. found ≡ map.get self.now name.now) }
