@@ -3,8 +3,11 @@
 
 mod fetching;
 mod keeper;
+mod kept;
+mod mem_keeper;
 mod storing;
 
 pub use fetching::fetch;
 pub use keeper::Keeper;
+pub use mem_keeper::MemKeeper;
 pub use storing::{StoreFault, store};
