@@ -1,5 +1,6 @@
 -- Names of objects: the kind, the SHA-256 digest (FIPS 180-4) and the size of their bytes, and how a name is spelled.
-use Rattle.std.specs.Prelude.{◌≡◌, ℕ, ◌+◌, ◌*◌, ◌≤◌, List, ◌∷◌, ◌++◌, length, take, drop, fold, slice_index, nat_le, ◌==◌, ◌&&◌, Option, Some, None, Ok, Err, Result, bytes_eq, unwrap_or, if◌then◌else◌}
+use Rattle.std.specs.Prelude.{◌≡◌, ℕ, ◌+◌, ◌*◌, ◌≤◌, List, ◌∷◌, ◌++◌, length, take, drop, fold, slice_index, nat_le, nat_lt, Bool, ◌==◌, ◌&&◌, Option, Some, None, Ok, Err, Result, bytes_eq, unwrap_or, if◌then◌else◌}
+use Rattle.std.specs.List.{list_all}
 use Rattle.std.specs.Int.{w32, to_be_bytes}
 use Rattle.std.specs.Ordering.{nat_cmp, on, then_cmp}
 use Rattle.std.specs.declared.cmp.Ordering.{Ordering}
@@ -49,10 +50,13 @@ spelled_by text = record {
   size = hex_value (drop 44 text);
 }
 
+-- whether this is what a name says
+abbrev pub is_name : ObjectName → Bool
+is_name n = (length n.digest == 32) && list_all (λ b. nat_lt b 256) n.digest && nat_le n.size max_size
+
 -- the name whose spelling this is, if there is one
 unfoldable pub named_by : List ℕ → Option ObjectName
-named_by text = let n = spelled_by text in
-    if nat_le n.size max_size && (length n.digest == 32) && bytes_eq (spelling n) text then Some n else None
+named_by text = let n = spelled_by text in if is_name n && bytes_eq (spelling n) text then Some n else None
 
 -- names stand in the order of their digests, then of their sizes, then of their kinds
 abbrev pub name_cmp : ObjectName → ObjectName → Ordering

@@ -8,6 +8,7 @@ mod mem_sink;
 mod name;
 mod number;
 mod sink;
+mod spelling;
 mod trouble;
 mod try_copy;
 
