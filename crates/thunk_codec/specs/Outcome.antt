@@ -1,5 +1,5 @@
 -- What running a function on a job may give.
-use Rattle.std.specs.Prelude.{◌≡◌, ◌≤◌, ℕ, List, length, sum_by}
+use Rattle.std.specs.Prelude.{◌≡◌, ◌≤◌, length, sum_by}
 use Rattle.object_name.specs.Name.{max_size}
 use Rattle.thunk_codec.specs.declared.job.Job.{Job}
 use Rattle.thunk_codec.specs.declared.job.Outcome.{Outcome}

@@ -3,7 +3,7 @@ use Rattle.std.specs.Prelude.{◌≡◌, ℕ, ◌^◌, ◌<◌, List, ◌∷◌,
 use Rattle.object_name.specs.declared.kind.Kind.{Kind}
 use Rattle.object_name.specs.declared.kind.Kind.TheVariants as kinds
 use Rattle.object_name.specs.Number.{number_of}
-use Rattle.object_name.specs.Name.{ObjectName, IsName, spelling, named_by}
+use Rattle.object_name.specs.Name.{IsName, spelling, named_by}
 use Rattle.thunk_codec.specs.declared.reference.Ref.{Ref}
 use Rattle.thunk_codec.specs.declared.reference.Ref.TheVariants.{Value, Out}
 use Rattle.thunk_codec.specs.Maybe.{◌>>=◌, ◌>>◌, check}

@@ -1,5 +1,5 @@
 -- Thunks: their parts, the rules that the parts keep, and their one text.
-use Rattle.std.specs.Prelude.{◌≡◌, ℕ, ◌+◌, ◌≤◌, List, [], ◌∷◌, ◌++◌, length, map, ◌==◌, ◌&&◌, ◌||◌, not, nat_le, Bool, true, false, IsTrue, decimal, codes, bytes_eq}
+use Rattle.std.specs.Prelude.{◌≡◌, ℕ, ◌≤◌, List, [], ◌∷◌, ◌++◌, length, map, ◌==◌, ◌&&◌, ◌||◌, not, nat_le, Bool, true, false, IsTrue, decimal, codes, bytes_eq}
 use Rattle.std.specs.List.{flat_map, list_all, list_any, AllByRecursion}
 use Rattle.std.specs.Ordering.{nat_cmp, is_lt}
 use Rattle.std.specs.Cmp.Lexicographic.{slice_cmp}

@@ -6,6 +6,7 @@ mod function;
 mod job;
 mod path;
 mod reference;
+mod resolved;
 mod thunk;
 
 pub use decoding::{DecodeFault, decode};

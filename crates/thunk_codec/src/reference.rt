@@ -2,6 +2,7 @@
 
 ghost use Rattle.std.specs.Prelude.{◌≡◌, ◌++◌, IfSome, OnOk, OnErr};
 ghost use Rattle.thunk_codec.specs.Reference.{IsRef, ref_text};
+ghost use Rattle.thunk_codec.specs.Job.{ref_name};
 
 use object_name::{Bytes, Name};
 use std::alloc::AllocError;
@@ -15,6 +16,17 @@ pub enum Ref {
 
 impl Ref {
     ghost use Rattle.thunk_codec.specs.Reference.{IsRef, ref_text};
+    ghost use Rattle.thunk_codec.specs.Job.{ref_name};
+
+    /// The name in it.
+    pub fn name(&self) -> &Name
+        ensures { result.now ≡ ref_name self.now }
+    {
+        match self {
+            Ref::Value(name) => name,
+            Ref::Out(name, _) => name,
+        }
+    }
 
     /// The reference that a text spells: the name of a value, or the name of a thunk, `#`, and a decimal number below 2^32.
     pub fn read(text: &[u8]) -> Option<Ref>

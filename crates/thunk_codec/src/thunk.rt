@@ -2,9 +2,11 @@
 
 ghost use Rattle.std.specs.Prelude.{◌≡◌};
 ghost use Rattle.thunk_codec.specs.Thunk.{IsThunk};
+ghost use Rattle.thunk_codec.specs.Job.{resolved_size};
 
 use crate::path::Path;
 use crate::reference::Ref;
+use crate::resolved::{args_size, envs_size, inputs_size, outputs_size};
 use object_name::{Bytes, Many};
 use std::marker::Model;
 
@@ -63,7 +65,14 @@ impl Thunk {
     }
 
     /// The length of the encoding of this thunk's job where its references are all values, by the sizes in their names.
-    pub fn resolved_size(&self) -> u64 {
-        0
+    pub fn resolved_size(&self) -> u64
+        ensures { result ≡ resolved_size self.now }
+    {
+        let function = u64::from(self.function.name().size());
+        let args = args_size(self.args.as_slice());
+        let envs = envs_size(self.envs.as_slice());
+        let inputs = inputs_size(self.inputs.as_slice());
+        let outputs = outputs_size(self.outputs.as_slice());
+        20 + function + args + envs + inputs + outputs
     }
 }

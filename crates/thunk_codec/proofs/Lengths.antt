@@ -1,0 +1,116 @@
+-- How long the encoding of a thunk's job is, and that the length is small.
+use Rattle.std.proofs.Common.{◌≡◌, ℕ, ◌+◌, ◌*◌, ◌^◌, ◌<◌, ◌≤◌, List, [], ◌∷◌, ◌++◌, length, map, refl, ap, ◌∙◌, arith, length-append, rules}
+use Rattle.std.specs.Prelude.{sum_by}
+use Rattle.std.specs.List.{flat_map, AllByRecursion}
+use Rattle.std.proofs.lemmas.List.Sums.{sum_by-cons, sum_by-le-sum_by}
+use Rattle.std.proofs.lemmas.List.Concat.{flat_map-cons, length-flat_map}
+use Rattle.object_name.specs.Name.{max_size}
+use Rattle.thunk_codec.specs.declared.job.Job.{Job}
+use Rattle.thunk_codec.specs.declared.reference.Ref.{Ref}
+use Rattle.thunk_codec.specs.declared.reference.Ref.TheVariants.{Value, Out}
+use Rattle.thunk_codec.specs.Reference.{IsRef}
+use Rattle.thunk_codec.specs.Thunk.{Parts, IsThunk, text_of, line, counted, arg_line, env_line, input_line, output_line}
+use Rattle.thunk_codec.specs.Job.{string, string_pair, job_encoding, job_size, size_by_lengths, resolved_size, ref_name}
+
+-- sums of terms that are equal one by one
+pub sum_by-same : {X : Type 0} (f g : X → ℕ) → ((x : X) → f x ≡ g x) → (xs : List X) → sum_by f xs ≡ sum_by g xs
+sum_by-same f g same [] = refl
+sum_by-same f g same (x ∷ xs) = omega (arith, sum_by-cons f x xs, sum_by-cons g x xs, same x, sum_by-same f g same xs)
+
+-- a sum over a mapped list
+pub sum_by-map : {X Y : Type 0} (f : Y → ℕ) (g : X → Y) (xs : List X) → sum_by f (map g xs) ≡ sum_by (λ x. f (g x)) xs
+sum_by-map f g [] = refl
+sum_by-map f g (x ∷ xs) = omega (arith, sum_by-cons f (g x) (map g xs), sum_by-cons (λ x. f (g x)) x xs, sum_by-map f g xs)
+
+length-string : (bytes : List ℕ) → length (string bytes) ≡ 4 + length bytes
+length-string bytes = omega (arith, length-append {A = ℕ})
+
+length-string_pair : (pair : List ℕ × List ℕ) → length (string_pair pair) ≡ 8 + length pair.0 + length pair.1
+length-string_pair pair = omega (arith, length-append (string pair.0) (string pair.1), length-string pair.0, length-string pair.1)
+
+strings : (texts : List (List ℕ)) → length (flat_map string texts) ≡ sum_by (λ text. 4 + length text) texts
+strings texts = length-flat_map string texts ∙ sum_by-same (λ text. length (string text)) (λ text. 4 + length text) length-string texts
+
+string_pairs : (pairs : List (List ℕ × List ℕ)) → length (flat_map string_pair pairs) ≡ sum_by (λ pair. 8 + length pair.0 + length pair.1) pairs
+string_pairs pairs = length-flat_map string_pair pairs ∙ sum_by-same (λ pair. length (string_pair pair)) (λ pair. 8 + length pair.0 + length pair.1) length-string_pair pairs
+
+-- the length of a job's encoding, by lengths
+pub job_size_by_lengths : (j : Job) → job_size j ≡ size_by_lengths (length j.function) j.args j.envs (map (λ input. (input.0, length input.1)) j.inputs) j.outputs
+unfolding job_encoding size_by_lengths
+job_size_by_lengths j =
+    let inputs-is = sum_by-map (λ (input : List ℕ × ℕ). 8 + length input.0 + input.1) (λ (input : List ℕ × List ℕ). (input.0, length input.1)) j.inputs in
+    simp length-append (omega (arith, length-string j.function, strings j.args, string_pairs j.envs, string_pairs j.inputs, strings j.outputs, inputs-is))
+
+-- ---- the sums of a thunk are below the limits of numbers
+
+length-arg_line : (arg : List ℕ) → 4 + length arg ≤ length (arg_line arg)
+length-arg_line arg = simp length-append (omega arith)
+
+line_args : (args : List (List ℕ)) → sum_by (λ arg. 4 + length arg) args ≤ length (flat_map arg_line args)
+line_args args = rw length-flat_map (sum_by-le-sum_by (λ (arg : List ℕ). 4 + length arg) (λ arg. length (arg_line arg)) args length-arg_line)
+
+length-output_line : (output : List ℕ) → 4 + length output ≤ length (output_line output)
+length-output_line output = simp length-append (omega arith)
+
+line_outputs : (outputs : List (List ℕ)) → sum_by (λ output. 4 + length output) outputs ≤ length (flat_map output_line outputs)
+line_outputs outputs = rw length-flat_map (sum_by-le-sum_by (λ (output : List ℕ). 4 + length output) (λ output. length (output_line output)) outputs length-output_line)
+
+length-line : (letter : ℕ) (said : List ℕ) → length (line letter said) ≡ 3 + length said
+length-line letter said = simp length-append (omega arith)
+
+length-counted : (bytes : List ℕ) → 1 + length bytes ≤ length (counted bytes)
+length-counted bytes = simp length-append (omega arith)
+
+length-env_line : (env : List ℕ × List ℕ) → 5 + length env.0 + length env.1 ≤ length (env_line env)
+length-env_line env =
+    let said : length (env.0 ++ 61 ∷ env.1) ≡ length env.0 + (1 + length env.1) = length-append env.0 (61 ∷ env.1) ∙ omega arith in
+    omega (arith, length-line 101 (counted (env.0 ++ 61 ∷ env.1)), length-counted (env.0 ++ 61 ∷ env.1), said)
+
+line_envs : (envs : List (List ℕ × List ℕ)) → sum_by (λ env. 8 + length env.0 + length env.1) envs ≤ 2 * length (flat_map env_line envs)
+line_envs [] = omega arith
+line_envs (env ∷ envs) =
+    let head = sum_by-cons (λ (e : List ℕ × List ℕ). 8 + length e.0 + length e.1) env envs in
+    let lines = ap length (flat_map-cons env_line env envs) ∙ length-append (env_line env) (flat_map env_line envs) in
+    omega (arith, head, lines, length-env_line env, line_envs envs)
+
+length-input_line : (input : List ℕ × Ref) → 5 + length input.0 ≤ length (input_line input)
+length-input_line input = simp length-append (omega arith)
+
+ref_size : (r : Ref) → IsRef r → (ref_name r).size ≤ max_size
+ref_size (Value name) h = h.0.size
+ref_size (Out name index) h = h.0.size
+
+line_inputs : (inputs : List (List ℕ × Ref)) → AllByRecursion IsRef (map (λ input. input.1) inputs)
+    → sum_by (λ input. 8 + length input.0 + (ref_name input.1).size) inputs ≤ length (flat_map input_line inputs) + length inputs * 16777219
+line_inputs [] refs = omega arith
+line_inputs (input ∷ inputs) refs =
+    let head = sum_by-cons (λ (i : List ℕ × Ref). 8 + length i.0 + (ref_name i.1).size) input inputs in
+    let lines = ap length (flat_map-cons input_line input inputs) ∙ length-append (input_line input) (flat_map input_line inputs) in
+    omega (arith, head, lines, length-input_line input, line_inputs inputs refs.1, ref_size input.1 refs.0)
+
+-- the sums of which a thunk's size is made are small
+pub record IsSmall (t : Parts) : Type 0 where
+  pub function : (ref_name t.function).size ≤ 16777216
+  pub args : sum_by (λ arg. 4 + length arg) t.args < 2 ^ 40
+  pub envs : sum_by (λ env. 8 + length env.0 + length env.1) t.envs < 2 ^ 40
+  pub inputs : sum_by (λ input. 8 + length input.0 + (ref_name input.1).size) t.inputs < 2 ^ 40
+  pub outputs : sum_by (λ output. 4 + length output) t.outputs < 2 ^ 40
+
+pub thunk_is_small : (t : Parts) → IsThunk t → IsSmall t
+unfolding text_of
+thunk_is_small t rules =
+    let whole = simp length-append at rules.size in
+    record {
+      function = ref_size t.function rules.function;
+      args = omega (arith, whole, line_args t.args);
+      envs = omega (arith, whole, line_envs t.envs);
+      inputs = omega (arith, whole, line_inputs t.inputs rules.input_refs, rules.few_inputs);
+      outputs = omega (arith, whole, line_outputs t.outputs);
+    }
+
+-- the size is the sum of these sums
+pub resolved_size_is : (t : Parts) → resolved_size t ≡ 20 + (ref_name t.function).size + sum_by (λ arg. 4 + length arg) t.args
+    + sum_by (λ env. 8 + length env.0 + length env.1) t.envs + sum_by (λ input. 8 + length input.0 + (ref_name input.1).size) t.inputs
+    + sum_by (λ output. 4 + length output) t.outputs
+unfolding resolved_size size_by_lengths
+resolved_size_is t = rw (sum_by-map (λ (input : List ℕ × ℕ). 8 + length input.0 + input.1) (λ (input : List ℕ × Ref). (input.0, (ref_name input.1).size)) t.inputs) refl
