@@ -1,13 +1,12 @@
 //! Objects by name.
 
-ghost use Rattle.std.specs.Prelude.{◌≡◌, IfOk};
+ghost use Rattle.std.specs.Prelude.{◌≡◌, ◌↔◌, IsTrue, IfOk, IfSome};
 ghost use Rattle.object_name.specs.Causes.{HasCauseBy};
 ghost use Rattle.object_name.specs.Name.{name_of};
-ghost use Rattle.std.specs.Prelude.{IfSome};
-ghost use Rattle.blob_store.specs.Store.{held};
+ghost use Rattle.blob_store.specs.Store.{held, if_named};
 
 use crate::keeper::Keeper;
-use object_name::{Bytes, Name, Trouble};
+use object_name::{Bytes, Name, Trouble, name_of};
 use std::alloc::Global;
 
 /// The object of a name, where it is held: other bytes under the name count as nothing.
@@ -23,9 +22,53 @@ pub fn fetch<K: Keeper>(
     ensures same { K.tells → K.store keeper.new ≡ K.store keeper.old }
     ensures cause { HasCauseBy retries (K.faults keeper.old) (K.faults keeper.new) result }
 {
-    let _ = alloc;
-    let _ = keeper;
-    let _ = name;
-    let _ = retries;
-    Err(Trouble::Memory)
+    match get_again(alloc, keeper, name, retries)? {
+        Some(bytes) => Ok(if_named(name, bytes)),
+        None => Ok(None),
+    }
+}
+
+/// What stands under a name, by the first of `retries` + 1 calls that doesn't fail.
+fn get_again<K: Keeper>(
+    alloc: Global,
+    keeper: &mut K,
+    name: &Name,
+    retries: u32,
+) -> Result<Option<Bytes>, Trouble>
+    ensures found { K.tells → IfOk result (λ found. found ≡ (K.store keeper.old).objects name.now) }
+    ensures same { K.tells → K.store keeper.new ≡ K.store keeper.old }
+    ensures cause { HasCauseBy retries (K.faults keeper.old) (K.faults keeper.new) result }
+{
+    'tries: for _ in 0..retries {
+        match keeper.get(alloc, name) {
+            Err(Trouble::Failed) => {}
+            answer => return answer,
+        }
+    }
+    keeper.get(alloc, name)
+}
+
+/// The bytes, where they have that name.
+fn if_named(name: &Name, bytes: Bytes) -> Option<Bytes>
+    ensures named { result ≡ if_named name.now bytes }
+    ensures only { IfSome result (λ found. name_of found ≡ name.now) }
+{
+    if has_name(name, bytes.as_slice()) {
+        Some(bytes)
+    } else {
+        None
+    }
+}
+
+/// Whether bytes have a name. Bytes over the greatest size have none.
+fn has_name(name: &Name, bytes: &[u8]) -> bool
+    ensures { IsTrue result ↔ (name_of bytes.now ≡ name.now) }
+{
+    if bytes.len() != name.size() as usize {
+        return false;
+    }
+    match name_of(bytes) {
+        Ok(found) => found == *name,
+        Err(_) => false,
+    }
 }
