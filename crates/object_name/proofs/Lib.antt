@@ -1,1 +1,5 @@
 pub mod SpellingLemmas
+pub mod NameLemmas
+pub mod NumberLemmas
+pub mod NameOrder
+pub mod StreamLemmas

@@ -1,7 +1,7 @@
 -- Counts of faults. A count never falls, and may stand still at its last value, 2 ^ 64 - 1.
 use Rattle.std.specs.Prelude.{ℕ, ◌+◌, ◌-◌, ◌^◌, ◌≤◌, min, Result, IsErrOf}
 use Rattle.object_name.specs.declared.trouble.Trouble.{Trouble}
-use Rattle.object_name.specs.declared.trouble.Trouble.TheVariants.{Failed, Memory}
+use Rattle.object_name.specs.declared.trouble.Trouble.TheVariants.{Failed}
 
 -- the count rose by more than n, or stands at its last value
 abbrev pub RoseBy : ℕ → ℕ → ℕ → Type 0

@@ -1,5 +1,6 @@
 pub mod Kind
 pub mod Number
 pub mod Name
+pub mod NameCode
 pub mod Causes
 pub mod Streams

@@ -1,5 +1,5 @@
 -- Names of objects: the kind, the SHA-256 digest (FIPS 180-4) and the size of their bytes, and how a name is spelled.
-use Rattle.std.specs.Prelude.{◌≡◌, ℕ, ◌+◌, ◌*◌, ◌≤◌, List, ◌∷◌, ◌++◌, length, take, drop, fold, slice_index, nat_le, nat_lt, Bool, ◌==◌, ◌&&◌, Option, Some, None, Ok, Err, Result, bytes_eq, unwrap_or, if◌then◌else◌}
+use Rattle.std.specs.Prelude.{◌≡◌, ℕ, ◌+◌, ◌*◌, ◌≤◌, List, ◌∷◌, ◌++◌, length, take, drop, fold, slice_index, nat_le, nat_lt, Bool, ◌==◌, ◌&&◌, Option, Some, None, bytes_eq, unwrap_or, if◌then◌else◌}
 use Rattle.std.specs.List.{list_all}
 use Rattle.std.specs.Int.{w32, to_be_bytes}
 use Rattle.std.specs.Ordering.{nat_cmp, on, then_cmp}

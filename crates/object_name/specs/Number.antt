@@ -1,5 +1,5 @@
 -- Canonical decimal numbers: `0`, or digits that don't begin with `0`.
-use Rattle.std.specs.Prelude.{ℕ, ◌+◌, ◌-◌, ◌*◌, ◌^◌, List, [], ◌∷◌, fold, nat_lt, ◌&&◌, Option, Some, None, decimal, bytes_eq, if◌then◌else◌}
+use Rattle.std.specs.Prelude.{ℕ, ◌+◌, ◌-◌, ◌*◌, ◌^◌, List, fold, nat_lt, ◌&&◌, Option, Some, None, decimal, bytes_eq, if◌then◌else◌}
 
 -- the value of a run of digits, the first of them the highest
 abbrev pub digits_value : List ℕ → ℕ

@@ -1,7 +1,7 @@
 //! The two kinds of object.
 
 ghost use Rattle.std.specs.Prelude.{◌≡◌, Some, IfSome};
-ghost use Rattle.object_name.specs.Kind.{kind_of, letter_of_kind};
+ghost use Rattle.object_name.specs.Kind.{kind_of, letter_of_kind, rank_of_kind};
 
 /// What an object is: bytes as they are, or a thunk that can be reduced.
 #[derive(Clone, Copy, Debug, PartialEq, Eq, Hash)]
@@ -31,6 +31,16 @@ impl Kind {
         match self {
             Kind::Value => b'V',
             Kind::Thunk => b'T',
+        }
+    }
+
+    /// The place of the kind in the order of names.
+    pub(crate) fn rank(self) -> u8
+        ensures { result ≡ rank_of_kind self }
+    {
+        match self {
+            Kind::Value => 0,
+            Kind::Thunk => 1,
         }
     }
 

@@ -3,6 +3,7 @@
 
 mod bytes;
 mod kind;
+pub mod laws;
 mod many;
 mod mem_sink;
 mod name;

@@ -1,4 +1,4 @@
-use Rattle.std.proofs.Common.{◌≡◌, ◌≤◌, sym, ap, ◌∙◌, ℕ, List, Some, arith}
+use Rattle.std.proofs.Common.{sym, ap, ◌∙◌, Some, arith}
 use Rattle.std.proofs.lemmas.Slice.Eq.{bytes_eq-Decides}
 use Rattle.object_name.proofs.SpellingLemmas.{size_decoded, from_be_bytes-size, size_spelled_again}
 use Rattle.object_name.proofs.spelling.read_size.Goals as goal
