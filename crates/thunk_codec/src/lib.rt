@@ -4,6 +4,7 @@
 mod decoding;
 mod function;
 mod job;
+mod normal;
 mod path;
 mod reference;
 mod resolved;
