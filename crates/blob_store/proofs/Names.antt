@@ -52,7 +52,7 @@ eq_by_cmp-name a b =
     (tells_apart name_cmp-IsAntisymmetric a b, λ e. subst (λ (c : ObjectName). eq_by_cmp name_cmp a c ≡ true) e (name_cmp-same a))
 
 -- a test that is not true is false
-untrue : (b : Bool) → (b ≡ true → ⊥) → b ≡ false
+pub untrue : (b : Bool) → (b ≡ true → ⊥) → b ≡ false
 untrue true never = absurd (never refl)
 untrue false _ = refl
 

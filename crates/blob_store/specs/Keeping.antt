@@ -2,6 +2,8 @@
 use Rattle.std.specs.Prelude.{◌≡◌, ◌⊎◌, ℕ, List, [], Option, Some, None, Result, Ok, Err, is_some, false}
 use Rattle.object_name.specs.Name.{ObjectName, name_of}
 use Rattle.object_name.specs.Causes.{RoseBy}
+use Rattle.object_name.specs.declared.trouble.Trouble.{Trouble}
+use Rattle.object_name.specs.declared.trouble.Trouble.TheVariants as Trouble
 use Rattle.blob_store.specs.declared.storing.StoreFault.{StoreFault}
 use Rattle.blob_store.specs.declared.storing.StoreFault.TheVariants.{Clash, Failed, Memory}
 use Rattle.blob_store.specs.Store.{Store, Write, written, after_write, held, other_held, own_write, storing}
@@ -48,3 +50,8 @@ StoreCause retries before after (Ok name) = Unit {0}
 StoreCause retries before after (Err (Clash name found fresh)) = Unit {0}
 StoreCause retries before after (Err Failed) = RoseBy retries before after
 StoreCause retries before after (Err Memory) = Unit {0}
+
+-- what storing answers where a call of the keeper is in trouble
+abbrev pub fault_of : Trouble → StoreFault
+fault_of Trouble.Failed = Failed
+fault_of Trouble.Memory = Memory

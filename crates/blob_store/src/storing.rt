@@ -1,12 +1,16 @@
 //! Putting objects under their names.
 
-ghost use Rattle.std.specs.Prelude.{◌≡◌, ◌≤◌, length, IfOk};
+ghost use Rattle.std.specs.Prelude.{◌≡◌, ◌≤◌, length, IfOk, OnOk, OnErr};
+ghost use Rattle.object_name.specs.Causes.{HasCauseBy};
 ghost use Rattle.object_name.specs.Name.{name_of, max_size};
 ghost use Rattle.blob_store.specs.declared.storing.StoreFault.TheVariants.{Memory};
-ghost use Rattle.blob_store.specs.Keeping.{StoresAs, ShowsClash, StoreCause};
+ghost use Rattle.blob_store.specs.Store.{after_write};
+ghost use Rattle.blob_store.specs.Store.Write.{Object};
+ghost use Rattle.blob_store.specs.Keeping.{MayWrite, StoresAs, ShowsClash, StoreCause, fault_of};
 
+use crate::fetching::fetch;
 use crate::keeper::Keeper;
-use object_name::{Bytes, Name};
+use object_name::{Bytes, Name, Trouble, name_of};
 use std::alloc::{AllocError, AllocFailed, Global};
 
 /// Why bytes were not stored.
@@ -40,6 +44,17 @@ impl<T: Drop> From<AllocFailed<T>> for StoreFault {
     }
 }
 
+impl From<Trouble> for StoreFault {
+    ghost from_gives = { λ trouble e. e ≡ fault_of trouble };
+
+    fn from(trouble: Trouble) -> Self {
+        match trouble {
+            Trouble::Failed => StoreFault::Failed,
+            Trouble::Memory => StoreFault::Memory,
+        }
+    }
+}
+
 /// Makes an object held, and answers its name. Where an equal object is held already, nothing is written.
 /// A failed call of the keeper is tried again, `retries` times at most.
 pub fn store<K: Keeper>(
@@ -55,9 +70,37 @@ pub fn store<K: Keeper>(
     ensures later { K.faults keeper.old ≤ K.faults keeper.new }
     ensures cause { StoreCause retries (K.faults keeper.old) (K.faults keeper.new) result }
 {
-    let _ = alloc;
-    let _ = keeper;
-    let _ = bytes;
-    let _ = retries;
-    Err(StoreFault::Memory)
+    let name = name_of(bytes).unwrap();
+    let Some(held) = fetch(alloc, keeper, &name, retries)? else {
+        put_again(keeper, &name, bytes, retries)?;
+        return Ok(name);
+    };
+    if held.as_slice() == bytes {
+        return Ok(name);
+    }
+    Err(StoreFault::Clash {
+        name,
+        held,
+        fresh: Bytes::from_slice(alloc, bytes)?,
+    })
+}
+
+/// Puts an object by the first of `retries` + 1 calls that doesn't fail.
+fn put_again<K: Keeper>(
+    keeper: &mut K,
+    name: &Name,
+    bytes: &[u8],
+    retries: u32,
+) -> Result<(), Trouble>
+    ensures made { K.tells → OnOk result (K.store keeper.new ≡ after_write (K.store keeper.old) (Object name.now bytes.now)) }
+    ensures kept { K.tells → OnErr result (MayWrite (K.store keeper.old) (Object name.now bytes.now) (K.store keeper.new)) }
+    ensures cause { HasCauseBy retries (K.faults keeper.old) (K.faults keeper.new) result }
+{
+    'tries: for _ in 0..retries {
+        match keeper.put(name, bytes) {
+            Err(Trouble::Failed) => {}
+            answer => return answer,
+        }
+    }
+    keeper.put(name, bytes)
 }
