@@ -52,11 +52,22 @@ store_one bytes = do
   each make_write (storing s.store bytes)
   give (name_of bytes)
 
--- an object that is held
-abbrev pub held_value : ObjectName → Eval ObjectName
-held_value name = do
+-- the bytes of an object that is held
+abbrev pub object : ObjectName → Eval (List ℕ)
+object name = do
   s ← current
   need (held s.store.objects name) (Refused (Missing name))
+
+-- the parts of a thunk that is held
+abbrev pub thunk_at : ObjectName → Eval Parts
+thunk_at name = do
+  bytes ← object name
+  need (thunk_of bytes) (Refused (BadThunk name))
+
+-- the name of a value that is held
+abbrev pub held_value : ObjectName → Eval ObjectName
+held_value name = do
+  object name
   give name
 
 -- the value of a reference of the wanted thunk
@@ -64,12 +75,27 @@ abbrev pub value_in : ObjectName → Ref → Eval ObjectName
 value_in wanted (Value name) = held_value name
 value_in wanted (Out name index) = stop (NotBuilt wanted)
 
+-- the job of a wanted thunk, where its function and inputs are there
+abbrev pub resolved : ObjectName → Parts → Eval Job
+resolved wanted t = do
+  function ← value_in wanted t.function
+  values ← each (value_in wanted) (map (λ input. input.1) t.inputs)
+  s ← current
+  let job = job_of s.store t function values in do
+    check (nat_le (job_size job) max_job) (NotBuilt wanted)
+    give job
+
+-- the names of the outputs, which are written
+abbrev pub outputs_by : ObjectName → Outcome → Eval (List ObjectName)
+outputs_by name (Done outputs) = each store_one outputs
+outputs_by name (Failed status) = stop (Refused (FunctionFailed name status))
+
 -- an output, where it is a value
 abbrev pub value_output : ObjectName → Kind → ObjectName → Eval ObjectName
 value_output wanted kinds.Value output = give output
 value_output wanted kinds.Thunk output = stop (NotBuilt wanted)
 
-module _ (answer : ℕ → Job → Option Outcome) (budget : ℕ) where
+module _ (budget : ℕ) where
   -- one step for the entry into a thunk, where the budget has one left
   abbrev pub count : ObjectName → Eval (Unit {0})
   count name = do
@@ -77,39 +103,34 @@ module _ (answer : ℕ → Job → Option Outcome) (budget : ℕ) where
     check (nat_lt s.steps budget) (Refused (Spent name budget))
     step
 
-  -- the outcome of a job
-  abbrev pub ask : Job → Eval Outcome
-  ask job = do
-    s ← current
-    outcome ← need (answer (length s.asked) job) (Stands job)
-    note_asked job
-    give outcome
+  -- the entry into a thunk of which an output is wanted
+  abbrev pub entered : ObjectName → ℕ → Parts → Eval (Unit {0})
+  entered name index t = do
+    check (nat_lt index (length t.outputs)) (Refused (NoOutput name index))
+    count name
 
-  -- the names of the outputs, which are written
-  abbrev pub outputs_by : ObjectName → Outcome → Eval (List ObjectName)
-  outputs_by name (Done outputs) = each store_one outputs
-  outputs_by name (Failed status) = stop (Refused (FunctionFailed name status))
+  -- the job of a thunk of which an output is wanted
+  unfoldable pub prepared : ObjectName → ℕ → Eval Job
+  prepared name index = do
+    t ← thunk_at name
+    entered name index t
+    resolved name t
 
-  -- the outputs of a thunk by the values of its function and inputs
-  unfoldable pub reduced : ObjectName → Parts → ObjectName → List ObjectName → Eval (List ObjectName)
-  reduced name t function values = do
-    s ← current
-    let job = job_of s.store t function values in do
-      check (nat_le (job_size job) max_job) (NotBuilt name)
-      outcome ← ask job
-      outputs_by name outcome
+-- the outcome of a job
+abbrev pub ask : (ℕ → Job → Option Outcome) → Job → Eval Outcome
+ask answer job = do
+  s ← current
+  outcome ← need (answer (length s.asked) job) (Stands job)
+  note_asked job
+  give outcome
 
+module _ (answer : ℕ → Job → Option Outcome) (budget : ℕ) where
   -- an output of a thunk
   unfoldable pub output_of : ObjectName → ℕ → Eval ObjectName
   output_of name index = do
-    s ← current
-    bytes ← need (held s.store.objects name) (Refused (Missing name))
-    t ← need (thunk_of bytes) (Refused (BadThunk name))
-    check (nat_lt index (length t.outputs)) (Refused (NoOutput name index))
-    count name
-    function ← value_in name t.function
-    values ← each (value_in name) (map (λ input. input.1) t.inputs)
-    outputs ← reduced name t function values
+    job ← prepared budget name index
+    outcome ← ask answer job
+    outputs ← outputs_by name outcome
     need (slice_get outputs index) (Refused (NoOutput name index))
 
   -- the value of a wanted reference

@@ -3,6 +3,7 @@
 
 mod evaluating;
 mod fault;
+pub mod laws;
 
 pub use evaluating::{Values, evaluate};
 pub use fault::{EvalFault, Refusal};
