@@ -1,5 +1,6 @@
 pub mod Words
 pub mod Cat
+pub mod CatFits
 pub mod Texts
 pub mod Answer
 pub mod Comes

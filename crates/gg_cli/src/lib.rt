@@ -1,6 +1,7 @@
 //! The command line of gg: its words, its answer, and the texts that it prints.
 #![tactic(auto)]
 
+mod cat;
 mod status;
 mod top;
 mod words;
