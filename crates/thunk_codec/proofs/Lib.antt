@@ -2,3 +2,4 @@ pub mod Lengths
 pub mod Steps
 pub mod Paths
 pub mod References
+pub mod Fields
