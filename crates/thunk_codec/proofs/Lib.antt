@@ -3,3 +3,4 @@ pub mod Steps
 pub mod Paths
 pub mod References
 pub mod Fields
+pub mod Texts
