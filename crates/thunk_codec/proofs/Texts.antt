@@ -90,3 +90,102 @@ all_lines_again {A} {said_at} {said} reader letter xs rest h done =
 begins_after : {A : Type 0} (letter other : ℕ) (said : A → List ℕ) (xs : List A) (rest : List ℕ) → eqb letter other ≡ false → begins letter rest ≡ false → begins letter (lines_of other said xs ++ rest) ≡ false
 begins_after letter other said [] rest ne h = h
 begins_after letter other said (x ∷ xs) rest ne h = rw ne refl
+
+-- ---- all parts
+
+-- the text behind the function's line
+abbrev pub behind_function : Parts → List ℕ → List ℕ
+behind_function t rest = flat_map arg_line t.args ++ (flat_map env_line t.envs ++ (flat_map input_line t.inputs ++ (flat_map output_line t.outputs ++ (end_line ++ rest))))
+
+regroup : (h f a e i o x r : List ℕ) → (h ++ (f ++ (a ++ (e ++ (i ++ (o ++ x)))))) ++ r ≡ h ++ (f ++ (a ++ (e ++ (i ++ (o ++ (x ++ r))))))
+regroup h f a e i o x r = simp append_assoc
+
+text_before : (t : Parts) (rest : List ℕ) → text_of t ++ rest ≡ head_line ++ (102 ∷ 32 ∷ (ref_text t.function ++ 10 ∷ behind_function t rest))
+unfolding text_of
+text_before t rest =
+    regroup head_line (function_line t.function) (flat_map arg_line t.args) (flat_map env_line t.envs) (flat_map input_line t.inputs) (flat_map output_line t.outputs) end_line rest
+    ∙ ap (λ (v : List ℕ). head_line ++ v) (line_before 102 (ref_text t.function) (behind_function t rest))
+
+-- the REFs are REFs
+pub record HasRefs (t : Parts) : Type 0 where
+  pub function : IsRef t.function
+  pub inputs : AllByRecursion (λ input. IsRef input.1) t.inputs
+
+-- the steps by which parts are read
+record IsRead (bytes : List ℕ) (x : Parts × List ℕ) : Type 0 where
+  first : List ℕ
+  letter : List ℕ
+  function : Ref × List ℕ
+  args : List (List ℕ) × List ℕ
+  envs : List (List ℕ × List ℕ) × List ℕ
+  inputs : List (List ℕ × Ref) × List ℕ
+  outputs : List (List ℕ) × List ℕ
+  rest : List ℕ
+  first_is : behind head_line bytes ≡ Some first
+  letter_is : behind (102 ∷ 32 ∷ []) first ≡ Some letter
+  function_is : ref_at letter ≡ Some function
+  args_is : all_lines_at 97 bytes_at function.1 ≡ Some args
+  envs_is : all_lines_at 101 env_at args.1 ≡ Some envs
+  inputs_is : all_lines_at 105 input_at envs.1 ≡ Some inputs
+  outputs_is : all_lines_at 111 bytes_at inputs.1 ≡ Some outputs
+  rest_is : behind end_line outputs.1 ≡ Some rest
+  whole : (record { function = function.0; args = args.0; envs = envs.0; inputs = inputs.0; outputs = outputs.0 }, rest) ≡ x
+
+parts_read : (bytes : List ℕ) (x : Parts × List ℕ) → parts_at bytes ≡ Some x → IsRead bytes x
+unfolding parts_at
+parts_read bytes x e =
+    let a = bind_some (behind head_line bytes) _ x e in
+    let b = bind_some (behind (102 ∷ 32 ∷ []) a.0) _ x a.2 in
+    let c = bind_some (ref_at b.0) _ x b.2 in
+    let d = bind_some (all_lines_at 97 bytes_at c.0.1) _ x c.2 in
+    let f = bind_some (all_lines_at 101 env_at d.0.1) _ x d.2 in
+    let g = bind_some (all_lines_at 105 input_at f.0.1) _ x f.2 in
+    let h = bind_some (all_lines_at 111 bytes_at g.0.1) _ x g.2 in
+    let i = bind_some (behind end_line h.0.1) _ x h.2 in
+    record {
+        first = a.0; letter = b.0; function = c.0; args = d.0; envs = f.0; inputs = g.0; outputs = h.0; rest = i.0;
+        first_is = a.1; letter_is = b.1; function_is = c.1; args_is = d.1; envs_is = f.1; inputs_is = g.1; outputs_is = h.1; rest_is = i.1;
+        whole = same_Some _ x i.2;
+    }
+
+pub parts_take : (bytes : List ℕ) (x : Parts × List ℕ) → parts_at bytes ≡ Some x → (bytes ≡ text_of x.0 ++ x.1) × HasRefs x.0
+parts_take bytes x e =
+    let r = parts_read bytes x e in
+    let t : Parts = record { function = r.function.0; args = r.args.0; envs = r.envs.0; inputs = r.inputs.0; outputs = r.outputs.0 } in
+    let head = behind_takes head_line bytes r.first r.first_is in
+    let mark = behind_takes (102 ∷ 32 ∷ []) r.first r.letter r.letter_is in
+    let function = ref_takes r.letter r.function r.function_is in
+    let args = lines_take bytes_reader 97 (length r.function.1) r.function.1 r.args r.args_is in
+    let envs = lines_take env_reader 101 (length r.args.1) r.args.1 r.envs r.envs_is in
+    let inputs = lines_take input_reader 105 (length r.envs.1) r.envs.1 r.inputs r.inputs_is in
+    let outputs = lines_take bytes_reader 111 (length r.inputs.1) r.inputs.1 r.outputs r.outputs_is in
+    let end = behind_takes end_line r.outputs.1 r.rest r.rest_is in
+    let outputs_all = outputs.0 ∙ ap (λ (v : List ℕ). flat_map output_line r.outputs.0 ++ v) end in
+    let inputs_all = inputs.0 ∙ ap (λ (v : List ℕ). flat_map input_line r.inputs.0 ++ v) outputs_all in
+    let envs_all = envs.0 ∙ ap (λ (v : List ℕ). flat_map env_line r.envs.0 ++ v) inputs_all in
+    let behind_all : r.function.1 ≡ behind_function t r.rest = args.0 ∙ ap (λ (v : List ℕ). flat_map arg_line r.args.0 ++ v) envs_all in
+    let function_all = function.0 ∙ ap (λ (v : List ℕ). ref_text r.function.0 ++ 10 ∷ v) behind_all in
+    let all : bytes ≡ text_of t ++ r.rest = head ∙ ap (λ (v : List ℕ). head_line ++ v) (mark ∙ ap (λ (v : List ℕ). 102 ∷ 32 ∷ v) function_all) ∙ sym (text_before t r.rest) in
+    subst (λ (v : Parts × List ℕ). (bytes ≡ text_of v.0 ++ v.1) × HasRefs v.0) r.whole (all, record { function = function.1; inputs = inputs.1 })
+
+-- the parts are short enough for numbers, and their keys have no `=`
+pub record IsReadable (t : Parts) : Type 0 where
+  pub function : IsRef t.function
+  pub args : AllByRecursion IsShort t.args
+  pub envs : AllByRecursion IsPair t.envs
+  pub inputs : AllByRecursion IsInput t.inputs
+  pub outputs : AllByRecursion IsShort t.outputs
+
+pub parts_again : (t : Parts) (rest : List ℕ) → IsReadable t → parts_at (text_of t ++ rest) ≡ Some (t, rest)
+unfolding parts_at
+parts_again t rest h =
+    let after_outputs = end_line ++ rest in
+    let after_inputs = flat_map output_line t.outputs ++ after_outputs in
+    let after_envs = flat_map input_line t.inputs ++ after_inputs in
+    let after_args = flat_map env_line t.envs ++ after_envs in
+    let args = all_lines_again bytes_reader 97 t.args after_args h.args (begins_after 97 101 env_said t.envs after_envs refl (begins_after 97 105 input_said t.inputs after_inputs refl (begins_after 97 111 counted t.outputs after_outputs refl refl))) in
+    let envs = all_lines_again env_reader 101 t.envs after_envs h.envs (begins_after 101 105 input_said t.inputs after_inputs refl (begins_after 101 111 counted t.outputs after_outputs refl refl)) in
+    let inputs = all_lines_again input_reader 105 t.inputs after_inputs h.inputs (begins_after 105 111 counted t.outputs after_outputs refl refl) in
+    let outputs = all_lines_again bytes_reader 111 t.outputs after_outputs h.outputs refl in
+    ap parts_at (text_before t rest)
+    ∙ rw (ref_at-again t.function (behind_function t rest) h.function, args, envs, inputs, outputs) refl
