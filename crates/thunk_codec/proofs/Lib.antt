@@ -2,3 +2,5 @@ pub mod Lengths
 pub mod Steps
 pub mod Paths
 pub mod References
+pub mod Fields
+pub mod Texts
