@@ -20,7 +20,7 @@ pub use calls::Calls;
 pub use kind::{Kind, kind_of};
 pub use many::Many;
 pub use mem_sink::MemSink;
-pub use name::{Name, TooLong, name_of};
+pub use name::{MAX_SIZE, Name, TooLong, name_of};
 pub use number::{read_number, write_number};
 pub use sink::{Sink, write_all};
 pub use trouble::Trouble;
