@@ -2,3 +2,4 @@ pub mod SpellingLemmas
 pub mod NameLemmas
 pub mod NumberLemmas
 pub mod NameOrder
+pub mod StreamLemmas

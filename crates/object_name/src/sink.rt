@@ -30,7 +30,9 @@ pub fn write_all<S: Sink>(sink: &mut S, bytes: &[u8]) -> Result<(), Trouble>
     ensures front { AppendsFront (S.written sink.old) (S.written sink.new) bytes.now }
     ensures cause { HasCause (S.faults sink.old) (S.faults sink.new) result }
 {
-    let _ = sink;
-    let _ = bytes;
-    Err(Trouble::Memory)
+    let mut at = 0;
+    'pieces: while at < bytes.len() {
+        at += sink.write(&bytes[at..])?;
+    }
+    Ok(())
 }

@@ -1,5 +1,6 @@
 pub mod Maybe
 pub mod Path
+pub mod Components
 pub mod Reference
 pub mod Thunk
 pub mod Reading

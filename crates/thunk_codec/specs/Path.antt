@@ -1,21 +1,19 @@
 -- Normal paths: a text cut at each `/`, without the components that are empty or `.`, each `..` taking away the one before it.
 use Rattle.std.specs.Prelude.{ℕ, List, [], ◌∷◌, ◌==◌, ◌&&◌, ◌||◌, not, nat_le, Bool, false, Option, Some, None, length, reverse, bytes_eq, codes, slice_index, if◌then◌else◌}
-use Rattle.std.specs.List.{list_all, join_with_byte}
+use Rattle.std.specs.List.{list_all, join_with_byte, slice_split}
 use Rattle.thunk_codec.specs.Maybe.{◌>>=◌, ◌>>◌, check}
 
 -- the greatest length of a path, in bytes
 abbrev pub max_path : ℕ
 max_path = 1024
 
--- the first piece gets one more byte in front
-abbrev pub with_first : ℕ → List (List ℕ) → List (List ℕ)
-with_first byte [] = (byte ∷ []) ∷ []
-with_first byte (piece ∷ pieces) = (byte ∷ piece) ∷ pieces
+-- whether a byte is `/`
+abbrev pub is_slash : ℕ → Bool
+is_slash byte = byte == 47
 
 -- the pieces before, between and behind the slashes: one more than there are slashes
-unfoldable pub pieces_of : List ℕ → List (List ℕ)
-pieces_of [] = [] ∷ []
-pieces_of (byte ∷ text) = if byte == 47 then [] ∷ pieces_of text else with_first byte (pieces_of text)
+abbrev pub pieces_of : List ℕ → List (List ℕ)
+pieces_of text = slice_split is_slash text
 
 -- all but the last of some components, of which the last stands first
 abbrev pub without_last : List (List ℕ) → Option (List (List ℕ))
@@ -41,15 +39,19 @@ is_printable byte = nat_le 32 byte && nat_le byte 126
 -- the components of the normal form of a text, the last of them first
 unfoldable pub components_of : List ℕ → Option (List (List ℕ))
 components_of text = do
-  check (not (slice_index text 0 == 47))
+  check (not (is_slash (slice_index text 0)))
   check (list_all is_printable text)
   after_pieces [] (pieces_of text)
+
+-- components, of which the last stands first, as a path
+abbrev pub joined : List (List ℕ) → List ℕ
+joined components = join_with_byte 47 (reverse components)
 
 -- the normal path of a text, if there is one: it has a component at least, and at most 1,024 bytes
 unfoldable pub path_of : List ℕ → Option (List ℕ)
 path_of text = do
   components ← components_of text
-  let path = join_with_byte 47 (reverse components) in do
+  let path = joined components in do
     check (not (bytes_eq path []))
     check (nat_le (length path) max_path)
     Some path

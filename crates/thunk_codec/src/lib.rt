@@ -4,6 +4,8 @@
 mod decoding;
 mod function;
 mod job;
+pub mod laws;
+mod normal;
 mod path;
 mod reference;
 mod resolved;

@@ -1,0 +1,30 @@
+-- Bytes written or read piece by piece.
+use Rattle.std.proofs.Common.{◌≡◌, ◌≤◌, ◌+◌, ◌-◌, ℕ, List, ◌++◌, length, take, drop, Option, ap, sym, ◌∙◌, subst, arith}
+use Rattle.std.specs.Io.KnownBytes.{Appends, Keeps}
+use Rattle.std.proofs.KnownBytes.{Appends-trans, Appends-kept}
+use Rattle.std.proofs.lemmas.List.{take-append-drop, take_all, length-drop, length-take}
+use Rattle.std.proofs.Math.Seq.{take-add}
+use Rattle.object_name.specs.Streams.{AppendsFront}
+
+-- a piece of what is left after a front
+piece : (bytes : List ℕ) (at n : ℕ) → take at bytes ++ take n (take (length bytes - at) (drop at bytes)) ≡ take (at + n) bytes
+piece bytes at n =
+    let whole : take (length bytes - at) (drop at bytes) ≡ drop at bytes = take_all (length bytes - at) (drop at bytes) (omega (arith, length-drop at bytes)) in
+    ap (λ (rest : List ℕ). take at bytes ++ take n rest) whole ∙ sym (take-add at n bytes)
+
+-- a front was written, and then a piece of what was left
+pub appends_more : (a b c : Option (List ℕ)) (bytes : List ℕ) (at n : ℕ) → Appends a b (take at bytes) → Appends b c (take n (take (length bytes - at) (drop at bytes))) → Appends a c (take (at + n) bytes)
+appends_more a b c bytes at n before then_more =
+    subst (λ (bs : List ℕ). Appends a c bs) (piece bytes at n) (Appends-trans a b c (take at bytes) (take n (take (length bytes - at) (drop at bytes))) before then_more)
+
+-- a front was written, and then nothing
+pub front_kept : (a b c : Option (List ℕ)) (bytes : List ℕ) (at : ℕ) → Appends a b (take at bytes) → Keeps b c → AppendsFront a c bytes
+front_kept a b c bytes at before kept = record {
+  front = take at bytes;
+  is_front = record { rest = drop at bytes; whole = sym (take-append-drop at bytes) };
+  grown = Appends-kept a b c (take at bytes) before kept;
+}
+
+-- a piece of what is left ends within it
+pub piece_within : (bytes : List ℕ) (at n : ℕ) → at ≤ length bytes → n ≤ length (take (length bytes - at) (drop at bytes)) → at + n ≤ length bytes
+piece_within bytes at n within short = omega (arith, within, short, length-take (length bytes - at) (drop at bytes), length-drop at bytes)
