@@ -1,2 +1,5 @@
 pub mod Keeping
 pub mod Growth
+pub mod ReadOnly
+pub mod Going
+pub mod Inputs
