@@ -111,7 +111,7 @@ fn memory_ends_fail_by_list(rt: HostRuntime) -> Result<(), Fail> {
 
     let mut failing = Many::new(rt.alloc());
     failing.push(1)?;
-    let mut source = MemSource::new(rt.alloc(), written, failing)?;
+    let mut source = MemSource::new(written, failing)?;
     assert_eq!(rt; read_all(rt.alloc(), &mut source, 4), Err(ReadEnd::Failed));
     assert_eq!(rt; read_all(rt.alloc(), &mut source, 2), Err(ReadEnd::TooLong));
     assert_eq!(rt; source.calls(), 2);
