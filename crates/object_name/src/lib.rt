@@ -14,6 +14,8 @@ mod read_source;
 mod sink;
 mod source;
 mod spelling;
+#[cfg(test)]
+mod tests;
 mod trouble;
 mod try_copy;
 mod write_sink;
