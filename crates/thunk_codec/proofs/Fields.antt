@@ -1,23 +1,22 @@
 -- What is read from the front of a text stands there, and what stands there is read.
-use Rattle.std.proofs.Common.{◌≡◌, ℕ, zero, suc, ◌+◌, ◌-◌, ◌^◌, ◌<◌, ◌≤◌, Bool, true, false, not, cond, eqb, leb, ◌&&◌, List, [], ◌∷◌, ◌++◌, length, take, drop, get_or, length-append, append_assoc, Option, Some, None, refl, sym, ap, subst, ◌∙◌, arith, inl, inr}
+use Rattle.std.proofs.Common.{◌≡◌, ℕ, suc, ◌^◌, ◌<◌, ◌≤◌, Bool, true, not, eqb, leb, List, [], ◌∷◌, ◌++◌, length, take, drop, get_or, length-append, append_assoc, Option, Some, refl, sym, ap, subst, ◌∙◌, arith, inl, inr}
 use Rattle.std.specs.Prelude.{decimal, nat_eq, ◌==◌}
-use Rattle.std.specs.List.{list_all, starts_with, flat_map, AllByRecursion}
+use Rattle.std.specs.List.{list_all, starts_with}
 use Rattle.std.proofs.lemmas.Bool.{cases_Bool, and_parts, and_from, leb-true, le-leb, eqb-true, eq-eqb, not_from_false, ne_eqb, not-true}
-use Rattle.std.proofs.lemmas.List.{take_at, drop_at, take-append-drop, length-take, append-nil}
-use Rattle.std.proofs.lemmas.List.Concat.{flat_map-cons}
+use Rattle.std.proofs.lemmas.List.{take_at, drop_at, take-append-drop, length-take}
 use Rattle.std.proofs.lemmas.List.Folds.{list_all-append}
 use Rattle.std.proofs.lemmas.Option.{same_Some}
 use Rattle.std.proofs.lemmas.Slice.Eq.{bytes_eq-Decides}
 use Rattle.object_name.specs.Number.{number_of}
-use Rattle.object_name.specs.Name.{ObjectName, spelling}
+use Rattle.object_name.specs.Name.{spelling}
 use Rattle.object_name.proofs.NumberLemmas.{number_of-decimal, decimal-number_of, decimal_digit_at}
 use Rattle.object_name.proofs.SpellingBytes.{spelling_without_feed}
 use Rattle.thunk_codec.specs.declared.reference.Ref.{Ref}
 use Rattle.thunk_codec.specs.declared.reference.Ref.TheVariants.{Value, Out}
 use Rattle.thunk_codec.specs.Maybe.{◌>>=◌, ◌>>◌}
 use Rattle.thunk_codec.specs.Reference.{IsRef, ref_text, ref_of}
-use Rattle.thunk_codec.specs.Thunk.{line, counted}
-use Rattle.thunk_codec.specs.Reading.{behind, with_byte, split_at_byte, counted_at, ref_at, bytes_at, env_at, input_at, lines_at}
+use Rattle.thunk_codec.specs.Thunk.{counted}
+use Rattle.thunk_codec.specs.Reading.{behind, with_byte, split_at_byte, counted_at, ref_at, bytes_at, env_at, input_at}
 use Rattle.thunk_codec.proofs.Steps.{bind_some, test_some}
 use Rattle.thunk_codec.proofs.References.{ref_spelled, ref_again}
 

@@ -4,3 +4,4 @@ pub mod Paths
 pub mod References
 pub mod Fields
 pub mod Texts
+pub mod Thunks
