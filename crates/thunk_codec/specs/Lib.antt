@@ -6,3 +6,4 @@ pub mod Thunk
 pub mod Reading
 pub mod Job
 pub mod Outcome
+pub mod Gives

@@ -7,6 +7,7 @@ mod job;
 pub mod laws;
 mod normal;
 mod path;
+mod reading;
 mod reference;
 mod resolved;
 mod thunk;
