@@ -5,3 +5,4 @@ pub mod References
 pub mod Fields
 pub mod Texts
 pub mod Thunks
+pub mod Loops

@@ -23,7 +23,7 @@ lines_of letter said xs = flat_map (λ x. line letter (said x)) xs
 abbrev pub begins : ℕ → List ℕ → Bool
 begins letter bytes = starts_with nat_eq bytes (letter ∷ 32 ∷ [])
 
-begins_with : (letter : ℕ) (bytes : List ℕ) → begins letter bytes ≡ true → bytes ≡ letter ∷ 32 ∷ drop 2 bytes
+pub begins_with : (letter : ℕ) (bytes : List ℕ) → begins letter bytes ≡ true → bytes ≡ letter ∷ 32 ∷ drop 2 bytes
 begins_with letter bytes h =
     let front : letter ∷ 32 ∷ [] ≡ take 2 bytes = (bytes_eq-Decides (letter ∷ 32 ∷ []) (take 2 bytes)).0 h in
     sym (take-append-drop 2 bytes) ∙ ap (λ (v : List ℕ). v ++ drop 2 bytes) (sym front)

@@ -5,6 +5,7 @@ mod decoding;
 mod function;
 mod job;
 pub mod laws;
+mod lines;
 mod normal;
 mod path;
 mod reading;
