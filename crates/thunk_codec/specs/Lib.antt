@@ -7,3 +7,4 @@ pub mod Reading
 pub mod Job
 pub mod Outcome
 pub mod Gives
+pub mod Raw
