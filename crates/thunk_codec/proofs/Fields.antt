@@ -1,23 +1,22 @@
 -- What is read from the front of a text stands there, and what stands there is read.
-use Rattle.std.proofs.Common.{◌≡◌, ℕ, zero, suc, ◌+◌, ◌-◌, ◌^◌, ◌<◌, ◌≤◌, Bool, true, false, not, cond, eqb, leb, ◌&&◌, List, [], ◌∷◌, ◌++◌, length, take, drop, get_or, length-append, append_assoc, Option, Some, None, refl, sym, ap, subst, ◌∙◌, arith, inl, inr}
+use Rattle.std.proofs.Common.{◌≡◌, ℕ, suc, ◌^◌, ◌<◌, ◌≤◌, Bool, true, not, eqb, leb, List, [], ◌∷◌, ◌++◌, length, take, drop, get_or, length-append, append_assoc, Option, Some, None, ◌-◌, ◌+◌, refl, sym, ap, subst, ◌∙◌, arith, inl, inr}
 use Rattle.std.specs.Prelude.{decimal, nat_eq, ◌==◌}
-use Rattle.std.specs.List.{list_all, starts_with, flat_map, AllByRecursion}
+use Rattle.std.specs.List.{list_all, starts_with}
 use Rattle.std.proofs.lemmas.Bool.{cases_Bool, and_parts, and_from, leb-true, le-leb, eqb-true, eq-eqb, not_from_false, ne_eqb, not-true}
-use Rattle.std.proofs.lemmas.List.{take_at, drop_at, take-append-drop, length-take, append-nil}
-use Rattle.std.proofs.lemmas.List.Concat.{flat_map-cons}
+use Rattle.std.proofs.lemmas.List.{take_at, drop_at, take-append-drop, length-take, drop_more, get_or-take, take_rest}
 use Rattle.std.proofs.lemmas.List.Folds.{list_all-append}
 use Rattle.std.proofs.lemmas.Option.{same_Some}
 use Rattle.std.proofs.lemmas.Slice.Eq.{bytes_eq-Decides}
 use Rattle.object_name.specs.Number.{number_of}
-use Rattle.object_name.specs.Name.{ObjectName, spelling}
+use Rattle.object_name.specs.Name.{spelling}
 use Rattle.object_name.proofs.NumberLemmas.{number_of-decimal, decimal-number_of, decimal_digit_at}
 use Rattle.object_name.proofs.SpellingBytes.{spelling_without_feed}
 use Rattle.thunk_codec.specs.declared.reference.Ref.{Ref}
 use Rattle.thunk_codec.specs.declared.reference.Ref.TheVariants.{Value, Out}
 use Rattle.thunk_codec.specs.Maybe.{◌>>=◌, ◌>>◌}
 use Rattle.thunk_codec.specs.Reference.{IsRef, ref_text, ref_of}
-use Rattle.thunk_codec.specs.Thunk.{line, counted}
-use Rattle.thunk_codec.specs.Reading.{behind, with_byte, split_at_byte, counted_at, ref_at, bytes_at, env_at, input_at, lines_at}
+use Rattle.thunk_codec.specs.Thunk.{counted}
+use Rattle.thunk_codec.specs.Reading.{behind, with_byte, split_at_byte, counted_at, ref_at, bytes_at, env_at, input_at}
 use Rattle.thunk_codec.proofs.Steps.{bind_some, test_some}
 use Rattle.thunk_codec.proofs.References.{ref_spelled, ref_again}
 
@@ -62,6 +61,28 @@ split_again stop (byte ∷ front) rest h =
     let parts = and_parts (not (eqb byte stop)) (has_no stop front) h in
     rw (not-true _ parts.0, split_again stop front rest parts.1) refl
 
+split_none : (stop : ℕ) (bytes : List ℕ) → has_no stop bytes ≡ true → split_at_byte stop bytes ≡ None
+unfolding split_at_byte
+split_none stop [] h = refl
+split_none stop (byte ∷ bytes) h =
+    let parts = and_parts (not (eqb byte stop)) (has_no stop bytes) h in
+    rw (not-true _ parts.0, split_none stop bytes parts.1) refl
+
+has_no_from : (stop : ℕ) (text : List ℕ) → ((i : ℕ) → i < length text → get_or text i 0 ≡ stop → ⊥) → has_no stop text ≡ true
+has_no_from stop [] h = refl
+has_no_from stop (byte ∷ text) h = and_from _ _ (not_from_false _ (ne_eqb byte stop (h 0 (omega arith)))) (has_no_from stop text (λ i lt. h (suc i) (omega (arith, lt))))
+
+-- the first stop byte, by its place
+pub split_found : (stop : ℕ) (bytes : List ℕ) (i : ℕ) → i < length bytes → get_or bytes i 0 ≡ stop → ((k : ℕ) → k < i → get_or bytes k 0 ≡ stop → ⊥)
+    → split_at_byte stop bytes ≡ Some (take i bytes, take (length bytes - (i + 1)) (drop (i + 1) bytes))
+split_found stop bytes i lt at before =
+    let cut : bytes ≡ take i bytes ++ stop ∷ drop (i + 1) bytes = sym (take-append-drop i bytes) ∙ ap (λ (v : List ℕ). take i bytes ++ v) (drop_more bytes i 0 lt ∙ ap (λ (b : ℕ). b ∷ drop (i + 1) bytes) at) in
+    let none : has_no stop (take i bytes) ≡ true = has_no_from stop (take i bytes) (λ k h. let kl : k < i = omega (arith, h, length-take i bytes) in λ e. before k kl (sym (get_or-take i bytes k 0 kl) ∙ e)) in
+    ap (split_at_byte stop) cut ∙ split_again stop (take i bytes) (drop (i + 1) bytes) none ∙ ap (λ (v : List ℕ). Some (take i bytes, v)) (sym (take_rest bytes (i + 1)))
+
+pub split_missed : (stop : ℕ) (bytes : List ℕ) → ((k : ℕ) → k < length bytes → get_or bytes k 0 ≡ stop → ⊥) → split_at_byte stop bytes ≡ None
+split_missed stop bytes none = split_none stop bytes (has_no_from stop bytes none)
+
 -- ---- bytes behind their number
 
 pub counted_takes : (bytes : List ℕ) (x : List ℕ × List ℕ) → counted_at bytes ≡ Some x → bytes ≡ counted x.0 ++ x.1
@@ -77,10 +98,6 @@ counted_takes bytes x e =
         split.0 ∙ ap (λ (v : List ℕ). v ++ 58 ∷ a.0.1) front ∙ ap (λ (v : List ℕ). decimal (length (take b.0 a.0.1)) ++ 58 ∷ v) (sym (take-append-drop b.0 a.0.1))
         ∙ sym (append_assoc (decimal (length (take b.0 a.0.1))) (58 ∷ take b.0 a.0.1) (drop b.0 a.0.1)) in
     subst (λ (v : List ℕ × List ℕ). bytes ≡ counted v.0 ++ v.1) (same_Some _ x c.1) whole
-
-has_no_from : (stop : ℕ) (text : List ℕ) → ((i : ℕ) → i < length text → get_or text i 0 ≡ stop → ⊥) → has_no stop text ≡ true
-has_no_from stop [] h = refl
-has_no_from stop (byte ∷ text) h = and_from _ _ (not_from_false _ (ne_eqb byte stop (h 0 (omega arith)))) (has_no_from stop text (λ i lt. h (suc i) (omega (arith, lt))))
 
 decimal_without : (n stop : ℕ) → n < 2 ^ 64 → (48 ≤ stop → stop ≤ 57 → ⊥) → has_no stop (decimal n) ≡ true
 decimal_without n stop fits other = has_no_from stop (decimal n) (λ i lt e. let digit = decimal_digit_at n i fits lt in other (rw e at digit.0) (rw e at digit.1))

@@ -4,3 +4,5 @@ pub mod Paths
 pub mod References
 pub mod Fields
 pub mod Texts
+pub mod Thunks
+pub mod Loops

@@ -1,19 +1,19 @@
 -- The two forms of a thunk's text are one.
-use Rattle.std.proofs.Common.{◌≡◌, ℕ, zero, suc, ◌+◌, ◌-◌, ◌^◌, ◌<◌, ◌≤◌, Bool, true, false, not, cond, eqb, leb, ◌&&◌, List, [], ◌∷◌, ◌++◌, length, map, take, drop, get_or, length-append, append_assoc, Option, Some, None, refl, sym, ap, subst, ◌∙◌, arith, inl, inr}
-use Rattle.std.specs.Prelude.{nat_eq, ◌==◌}
-use Rattle.std.specs.List.{list_all, starts_with, flat_map, AllByRecursion}
-use Rattle.std.proofs.lemmas.Bool.{cases_Bool, and_parts, and_from, leb-true, le-leb, eq-eqb}
-use Rattle.std.proofs.lemmas.List.{take_at, drop_at, take-append-drop, append-nil, append_cancel_left}
+use Rattle.std.proofs.Common.{◌≡◌, ℕ, zero, suc, ◌≤◌, Bool, true, false, eqb, List, [], ◌∷◌, ◌++◌, length, take, drop, length-append, append_assoc, Option, Some, refl, sym, ap, subst, ◌∙◌, arith, inl, inr}
+use Rattle.std.specs.Prelude.{nat_eq}
+use Rattle.std.specs.List.{starts_with, flat_map, AllByRecursion}
+use Rattle.std.proofs.lemmas.Bool.{cases_Bool}
+use Rattle.std.proofs.lemmas.List.{take-append-drop}
 use Rattle.std.proofs.lemmas.List.Concat.{flat_map-cons}
 use Rattle.std.proofs.lemmas.Option.{same_Some}
 use Rattle.std.proofs.lemmas.Slice.Eq.{bytes_eq-Decides}
 use Rattle.thunk_codec.specs.declared.reference.Ref.{Ref}
-use Rattle.thunk_codec.specs.Maybe.{◌>>=◌, ◌>>◌}
+use Rattle.thunk_codec.specs.Maybe.{◌>>=◌}
 use Rattle.thunk_codec.specs.Reference.{IsRef, ref_text}
 use Rattle.thunk_codec.specs.Thunk.{Parts, line, counted, head_line, end_line, function_line, arg_line, env_line, input_line, output_line, text_of}
 use Rattle.thunk_codec.specs.Reading.{behind, ref_at, bytes_at, env_at, input_at, lines_at, all_lines_at, parts_at}
-use Rattle.thunk_codec.proofs.Steps.{bind_some, test_some}
-use Rattle.thunk_codec.proofs.Fields.{IsReader, IsShort, IsPair, IsInput, env_said, input_said, behind_takes, behind_again, ref_takes, ref_at-again, bytes_reader, env_reader, input_reader}
+use Rattle.thunk_codec.proofs.Steps.{bind_some}
+use Rattle.thunk_codec.proofs.Fields.{IsReader, IsShort, IsPair, IsInput, env_said, input_said, behind_takes, ref_takes, ref_at-again, bytes_reader, env_reader, input_reader}
 
 -- lines of a letter
 abbrev pub lines_of : {A : Type 0} → ℕ → (A → List ℕ) → List A → List ℕ
@@ -23,7 +23,7 @@ lines_of letter said xs = flat_map (λ x. line letter (said x)) xs
 abbrev pub begins : ℕ → List ℕ → Bool
 begins letter bytes = starts_with nat_eq bytes (letter ∷ 32 ∷ [])
 
-begins_with : (letter : ℕ) (bytes : List ℕ) → begins letter bytes ≡ true → bytes ≡ letter ∷ 32 ∷ drop 2 bytes
+pub begins_with : (letter : ℕ) (bytes : List ℕ) → begins letter bytes ≡ true → bytes ≡ letter ∷ 32 ∷ drop 2 bytes
 begins_with letter bytes h =
     let front : letter ∷ 32 ∷ [] ≡ take 2 bytes = (bytes_eq-Decides (letter ∷ 32 ∷ []) (take 2 bytes)).0 h in
     sym (take-append-drop 2 bytes) ∙ ap (λ (v : List ℕ). v ++ drop 2 bytes) (sym front)
