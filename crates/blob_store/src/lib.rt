@@ -4,9 +4,15 @@
 mod fetching;
 mod files;
 mod folder_keeper;
+#[cfg(test)]
+mod folder_tests;
 mod keeper;
 mod kept;
 mod mem_keeper;
+#[cfg(test)]
+mod memory_tests;
+#[cfg(test)]
+mod stopping;
 mod storing;
 
 pub use fetching::fetch;
