@@ -5,3 +5,5 @@ pub mod Going
 pub mod Inputs
 pub mod Resolving
 pub mod Preparing
+pub mod StoreOne
+pub mod Outputs
