@@ -3,3 +3,7 @@ pub mod Growth
 pub mod ReadOnly
 pub mod Going
 pub mod Inputs
+pub mod Resolving
+pub mod Preparing
+pub mod StoreOne
+pub mod Outputs

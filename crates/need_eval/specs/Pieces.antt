@@ -6,6 +6,8 @@ use Rattle.thunk_codec.specs.declared.reference.Ref.{Ref}
 use Rattle.thunk_codec.specs.declared.job.Outcome.{Outcome}
 use Rattle.thunk_codec.specs.Job.{ref_name}
 use Rattle.blob_store.specs.Store.{Store}
+use Rattle.blob_store.specs.declared.storing.StoreFault.{StoreFault}
+use Rattle.blob_store.specs.declared.storing.StoreFault.TheVariants as stores
 use Rattle.need_eval.specs.declared.fault.EvalFault.{EvalFault}
 use Rattle.need_eval.specs.declared.fault.EvalFault.TheVariants as faults
 use Rattle.need_eval.specs.declared.fault.Refusal.TheVariants.{NoOutput}
@@ -50,6 +52,12 @@ AnyCause retries kept_before kept_after run_before run_after faults.StoreFailed 
 AnyCause retries kept_before kept_after run_before run_after faults.RunFailed = Rose run_before run_after
 AnyCause retries kept_before kept_after run_before run_after faults.Memory = Unit {0}
 
+-- why an object was not stored, as a fault of an evaluation
+abbrev pub fault_of_store : StoreFault → EvalFault
+fault_of_store (stores.Clash name found fresh) = faults.Clash name found fresh
+fault_of_store stores.Failed = faults.StoreFailed
+fault_of_store stores.Memory = faults.Memory
+
 -- the state after one step more
 abbrev pub stepped : State → State
 stepped s = record s { steps = suc s.steps }
@@ -73,10 +81,15 @@ lengths_of read = map (λ input. (input.0, length input.1)) read
 abbrev pub sizes_of : List (List ℕ × Ref) → List (List ℕ × ℕ)
 sizes_of inputs = map (λ input. (input.0, (ref_name input.1).size)) inputs
 
+-- a wanted one of some outputs, where it is a value
+abbrev pub wanted_output : ObjectName → ℕ → List ObjectName → Eval ObjectName
+wanted_output name index outputs = do
+  output ← need (slice_get outputs index) (Refused (NoOutput name index))
+  value_output name output.kind output
+
 -- a wanted output of a thunk, by the outcome of its job
 abbrev pub finished : ObjectName → ℕ → Outcome → Eval (List ObjectName)
 finished name index outcome = do
   outputs ← outputs_by name outcome
-  output ← need (slice_get outputs index) (Refused (NoOutput name index))
-  value ← value_output name output.kind output
+  value ← wanted_output name index outputs
   give (value ∷ [])

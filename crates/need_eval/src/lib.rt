@@ -7,6 +7,7 @@ mod fault;
 mod gathering;
 pub mod laws;
 mod reading;
+mod writing;
 
 pub use evaluating::{Values, evaluate};
 pub use fault::{EvalFault, Refusal};
