@@ -4,3 +4,4 @@ pub mod Retries
 pub mod Places
 pub mod KeptLemmas
 pub mod MemoryLemmas
+pub mod FileLemmas

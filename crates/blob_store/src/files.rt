@@ -1,6 +1,7 @@
 //! Bytes by name in a folder of files.
 
-ghost use Rattle.std.specs.Prelude.{◌≤◌, ◌+◌, length, IfOk};
+ghost use Rattle.std.specs.Prelude.{◌≡◌, ◌+◌, take, IfOk, IfSome, OnOk};
+ghost use Rattle.std.specs.Io.KnownBytes.{Appends};
 ghost use Rattle.object_name.specs.Name.{max_size};
 
 use object_name::{Bytes, MAX_SIZE, Name};
@@ -56,20 +57,23 @@ fn path_of(alloc: Global, folder: &str, name: &Name, end: &str) -> Result<String
 
 /// The bytes that a reader has, or the first of them, one more than the greatest size of an object.
 fn read_up_to_limit<F: Read>(alloc: Global, file: &mut F) -> io::Result<Bytes>
-    ensures { IfOk result (λ bytes. length bytes ≤ max_size + 1) }
+    ensures { IfOk result (λ bytes. IfSome (F.remaining file.old) (λ all. bytes ≡ take (max_size + 1) all)) }
 {
     let limit = MAX_SIZE as usize + 1;
-    let mut bytes = Vec::new(alloc);
+    let mut bytes = Bytes::new(alloc);
     let mut piece = [0u8; PIECE];
-    'pieces: while bytes.len() < limit {
-        let room = PIECE.min(limit - bytes.len());
-        let count = file.read(&mut piece[..room])?;
-        if count == 0 {
-            break;
+    'pieces: loop {
+        let room = limit - bytes.len();
+        if room == 0 {
+            return Ok(bytes);
         }
-        bytes.extend_from_slice(&piece[..count])?;
+        let want = room.min(PIECE);
+        let count = file.read(&mut piece[..want])?;
+        if count == 0 {
+            return Ok(bytes);
+        }
+        bytes.append(&piece[..count])?;
     }
-    Ok(Bytes(bytes))
 }
 
 /// Writes a new file, and makes its folder where that is missing.
@@ -85,14 +89,16 @@ fn write_beside<R: Files>(files: &R, folder: &str, path: &str, bytes: &[u8]) -> 
 }
 
 /// Writes all the bytes.
-fn write_whole<F: Write>(file: &mut F, bytes: &[u8]) -> io::Result<()> {
-    let mut rest = bytes;
-    'rest: while !rest.is_empty() {
-        let count = file.write(rest)?;
+fn write_whole<F: Write>(file: &mut F, bytes: &[u8]) -> io::Result<()>
+    ensures { OnOk result (Appends (F.contents file.old) (F.contents file.new) bytes.now) }
+{
+    let mut at = 0;
+    'pieces: while at < bytes.len() {
+        let count = file.write(&bytes[at..])?;
         if count == 0 {
             return Err(io::Error::from(ErrorKind::WriteZero));
         }
-        rest = &rest[count..];
+        at += count;
     }
     Ok(())
 }
