@@ -6,3 +6,4 @@ pub mod Fields
 pub mod Texts
 pub mod Thunks
 pub mod Loops
+pub mod AsAre

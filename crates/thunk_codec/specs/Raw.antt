@@ -15,7 +15,7 @@ keeps_numbers t = nat_le (length t.inputs) 4096 && (nat_le 1 (length t.outputs) 
 -- the rules on arguments and environments
 abbrev pub keeps_bytes : Parts → Bool
 keeps_bytes t = list_all has_no_zero t.args
-    && (list_all is_identifier (map (λ env. env.0) t.envs) && list_all has_no_zero (map (λ env. env.1) t.envs))
+    && (list_all (λ env. is_identifier env.0) t.envs && list_all (λ env. has_no_zero env.1) t.envs)
 
 -- the rules on orders
 abbrev pub keeps_orders : Parts → Bool
