@@ -1,9 +1,7 @@
 -- Texts that are paths as they stand.
-use Rattle.std.proofs.Common.{◌≡◌, ℕ, ◌<◌, Bool, true, false, List, length, map, get_or, Option, Some, None, refl, sym, ap, subst, ◌∙◌}
+use Rattle.std.proofs.Common.{◌≡◌, ℕ, ◌<◌, Bool, true, false, List, length, map, get_or, Option, Some, None, refl, sym, ap, ◌∙◌}
 use Rattle.std.specs.Prelude.{bytes_eq}
 use Rattle.std.specs.List.{list_all}
-use Rattle.std.proofs.lemmas.Bool.{false_from_ne_true, false≢true}
-use Rattle.std.proofs.lemmas.List.{get_or_read}
 use Rattle.std.proofs.lemmas.List.Folds.{list_all_at, list_all-map}
 use Rattle.thunk_codec.specs.declared.decoding.DecodeFault.{DecodeFault}
 use Rattle.thunk_codec.specs.declared.decoding.DecodeFault.TheVariants.{BadThunk, Memory}
@@ -14,7 +12,7 @@ use Rattle.thunk_codec.specs.Path.{path_of, is_path, is_same_path}
 pub only_if_none : {Y : Type 0} (test : Bool) (x : Y) → test ≡ false → only_if test x ≡ None
 only_if_none test x e = rw e refl
 
-none_is_false : {Y : Type 0} (test : Bool) (x : Y) → only_if test x ≡ None → test ≡ false
+pub none_is_false : {Y : Type 0} (test : Bool) (x : Y) → only_if test x ≡ None → test ≡ false
 none_is_false true x e = absurd cc
 none_is_false false x e = refl
 

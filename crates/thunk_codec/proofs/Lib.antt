@@ -7,3 +7,5 @@ pub mod Texts
 pub mod Thunks
 pub mod Loops
 pub mod AsAre
+pub mod Made
+pub mod Decodes
