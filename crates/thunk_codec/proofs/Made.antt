@@ -41,11 +41,11 @@ rules_kept t h =
     let i = and_parts (list_all is_path t.outputs) _ g.1 in
     let j = and_parts (are_distinct t.outputs) _ i.1 in
     record {
-        numbers = and_from _ _ g.0 j.1;
-        bytes = and_from _ _ a.0 (and_from _ _ (sym (keys_of t) ∙ b.0) (sym (values_of t) ∙ c.0));
-        orders = and_from _ _ d.0 (and_from _ _ f.0 j.0);
-        inputs = e.0;
-        outputs = i.0;
+      numbers = and_from _ _ g.0 j.1;
+      bytes = and_from _ _ a.0 (and_from _ _ (sym (keys_of t) ∙ b.0) (sym (values_of t) ∙ c.0));
+      orders = and_from _ _ d.0 (and_from _ _ f.0 j.0);
+      inputs = e.0;
+      outputs = i.0;
     }
 
 pub kept_rules : (t : Parts) → Keeps t → keeps_rules t ≡ true
@@ -56,7 +56,7 @@ kept_rules t h =
     let orders = and_parts (rises (map (λ env. env.0) t.envs)) _ h.orders in
     let others = and_parts (rises (map (λ input. input.0) t.inputs)) _ orders.1 in
     and_from _ _ args.0 (and_from _ _ (keys_of t ∙ envs.0) (and_from _ _ (values_of t ∙ envs.1) (and_from _ _ orders.0 (and_from _ _ h.inputs (and_from _ _ others.0
-        (and_from _ _ numbers.0 (and_from _ _ h.outputs (and_from _ _ others.1 numbers.1))))))))
+    (and_from _ _ numbers.0 (and_from _ _ h.outputs (and_from _ _ others.1 numbers.1))))))))
 
 -- a test that holds where the rules are kept, and doesn't hold
 pub not_kept : (t : Parts) (test : Bool) → (Keeps t → test ≡ true) → test ≡ false → only_if (keeps_rules t) t ≡ None
@@ -75,7 +75,7 @@ let_through false x y e = absurd cc
 pub made_thunk : (t : Parts) (inputs : List (List ℕ × Ref)) (outputs : List (List ℕ)) → HasRefs t → length (text_of t) ≤ max_size → keeps_numbers t ≡ true → keeps_bytes t ≡ true → keeps_orders t ≡ true
     → only_if (list_all is_path (map (λ input. input.0) t.inputs)) t.inputs ≡ Some inputs → only_if (list_all is_path t.outputs) t.outputs ≡ Some outputs
     → IsThunk (record { function = t.function; args = t.args; envs = t.envs; inputs = inputs; outputs = outputs })
-      × (only_if (keeps_rules t) t ≡ Some (record { function = t.function; args = t.args; envs = t.envs; inputs = inputs; outputs = outputs }))
+    × (only_if (keeps_rules t) t ≡ Some (record { function = t.function; args = t.args; envs = t.envs; inputs = inputs; outputs = outputs }))
 made_thunk t inputs outputs refs size numbers bytes orders inputs_are outputs_are =
     let a = let_through (list_all is_path (map (λ input. input.0) t.inputs)) t.inputs inputs inputs_are in
     let b = let_through (list_all is_path t.outputs) t.outputs outputs outputs_are in

@@ -59,13 +59,7 @@ fn thunk_with(alloc: Global, raw: RawParts) -> Result<Thunk, DecodeFault>
     }
     let inputs = inputs_as_are(alloc, raw.inputs.as_slice())?;
     let outputs = paths_as_are(alloc, raw.outputs.as_slice())?;
-    Ok(Thunk::from_parts(
-        raw.function,
-        raw.args,
-        raw.envs,
-        inputs,
-        outputs,
-    ))
+    Ok(Thunk::from_parts(raw.function, raw.args, raw.envs, inputs, outputs))
 }
 
 /// The thunk whose text the bytes are, by the definition as a total function.

@@ -3,13 +3,13 @@
 
 mod decoding;
 mod function;
+mod in_place;
 mod job;
 pub mod laws;
 mod lines;
 mod normal;
 mod parts;
 mod path;
-mod in_place;
 mod reading;
 mod reference;
 mod resolved;
@@ -22,3 +22,6 @@ pub use job::{Job, Outcome};
 pub use path::Path;
 pub use reference::Ref;
 pub use thunk::Thunk;
+
+#[cfg(test)]
+mod tests;

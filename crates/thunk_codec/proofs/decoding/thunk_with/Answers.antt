@@ -9,5 +9,5 @@ returns-then-not-keeps_bytes c = not_kept (parts_of c.args.raw) (keeps_bytes (pa
 pub from_parts-requires : goal.from_parts-requires
 from_parts-requires c =
     (made_thunk (parts_of c.args.raw) c.in_ok-inputs.inputs c.in_ok-outputs.outputs c.requires.refs c.requires.size
-        (sym c.keeps_numbers.ensures ∙ c.if-not-keeps_numbers.false) (sym c.keeps_bytes.ensures ∙ c.if-not-keeps_bytes.false) (sym c.keeps_orders.ensures ∙ c.if-not-keeps_orders.false)
-        (rw c.as_slice.ensures at c.in_ok-inputs.ensures) (rw c.as_slice-2.ensures at c.in_ok-outputs.ensures)).0
+    (sym c.keeps_numbers.ensures ∙ c.if-not-keeps_numbers.false) (sym c.keeps_bytes.ensures ∙ c.if-not-keeps_bytes.false) (sym c.keeps_orders.ensures ∙ c.if-not-keeps_orders.false)
+    (rw c.as_slice.ensures at c.in_ok-inputs.ensures) (rw c.as_slice-2.ensures at c.in_ok-outputs.ensures)).0

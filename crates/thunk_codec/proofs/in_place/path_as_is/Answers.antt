@@ -10,4 +10,4 @@ returns-in_default c = no_path c.args.text.now c.in_ok-path.field-0 c.in_ok-path
 pub returns-then-ne : goal.returns-then-ne
 returns-then-ne c =
     other_path c.args.text.now c.in-Some.path c.in_ok-path.field-0 c.in_ok-path.ensures c.in-Some.is
-        (ap (λ (v : List ℕ). bytes_eq v c.args.text.now) (sym c.text.ensures.text) ∙ not-true _ (sym c.ne.ensures ∙ c.if-ne.true))
+    (ap (λ (v : List ℕ). bytes_eq v c.args.text.now) (sym c.text.ensures.text) ∙ not-true _ (sym c.ne.ensures ∙ c.if-ne.true))
