@@ -11,6 +11,7 @@ use Rattle.thunk_codec.specs.declared.reference.Ref.{Ref}
 use Rattle.thunk_codec.specs.Maybe.{◌>>=◌}
 use Rattle.thunk_codec.specs.Reference.{IsRef, ref_text}
 use Rattle.thunk_codec.specs.Thunk.{Parts, line, counted, head_line, end_line, function_line, arg_line, env_line, input_line, output_line, text_of}
+use Rattle.thunk_codec.specs.Raw.{HasRefs}
 use Rattle.thunk_codec.specs.Reading.{behind, ref_at, bytes_at, env_at, input_at, lines_at, all_lines_at, parts_at}
 use Rattle.thunk_codec.proofs.Steps.{bind_some}
 use Rattle.thunk_codec.proofs.Fields.{IsReader, IsShort, IsPair, IsInput, env_said, input_said, behind_takes, ref_takes, ref_at-again, bytes_reader, env_reader, input_reader}
@@ -105,11 +106,6 @@ unfolding text_of
 text_before t rest =
     regroup head_line (function_line t.function) (flat_map arg_line t.args) (flat_map env_line t.envs) (flat_map input_line t.inputs) (flat_map output_line t.outputs) end_line rest
     ∙ ap (λ (v : List ℕ). head_line ++ v) (line_before 102 (ref_text t.function) (behind_function t rest))
-
--- the REFs are REFs
-pub record HasRefs (t : Parts) : Type 0 where
-  pub function : IsRef t.function
-  pub inputs : AllByRecursion (λ input. IsRef input.1) t.inputs
 
 -- the steps by which parts are read
 record IsRead (bytes : List ℕ) (x : Parts × List ℕ) : Type 0 where

@@ -13,11 +13,12 @@ use Rattle.thunk_codec.specs.Maybe.{◌>>◌}
 use Rattle.thunk_codec.specs.Path.{is_path}
 use Rattle.thunk_codec.specs.Reference.{IsRef}
 use Rattle.thunk_codec.specs.Thunk.{Parts, IsThunk, Text, text_of, counted, arg_line, env_line, input_line, output_line, has_no_zero, is_letter, is_digit, is_identifier, rises, are_distinct}
+use Rattle.thunk_codec.specs.Raw.{HasRefs}
 use Rattle.thunk_codec.specs.Reading.{parts_at, keeps_rules, thunk_of}
 use Rattle.thunk_codec.proofs.Steps.{bind_some, test_some}
 use Rattle.thunk_codec.proofs.Lengths.{length-arg_line, length-output_line, length-line, length-counted, length-input_line}
 use Rattle.thunk_codec.proofs.Fields.{has_no, IsShort, IsPair, IsInput}
-use Rattle.thunk_codec.proofs.Texts.{HasRefs, IsReadable, parts_take, parts_again}
+use Rattle.thunk_codec.proofs.Texts.{IsReadable, parts_take, parts_again}
 
 -- ---- the parts of a thunk are readable
 
@@ -85,7 +86,7 @@ mapped_refs [] h = tt
 mapped_refs (input ∷ inputs) h = (h.0, mapped_refs inputs h.1)
 
 -- parts that pass the test and have a short text are a thunk's
-rules_from : (t : Parts) → HasRefs t → length (text_of t) ≤ max_size → keeps_rules t ≡ true → IsThunk t
+pub rules_from : (t : Parts) → HasRefs t → length (text_of t) ≤ max_size → keeps_rules t ≡ true → IsThunk t
 rules_from t refs size h =
     let a = and_parts (list_all has_no_zero t.args) _ h in
     let b = and_parts (list_all is_identifier (map (λ env. env.0) t.envs)) _ a.1 in

@@ -9,6 +9,7 @@ mod lines;
 mod normal;
 mod parts;
 mod path;
+mod in_place;
 mod reading;
 mod reference;
 mod resolved;

@@ -31,6 +31,26 @@ impl Model for Thunk {
 }
 
 impl Thunk {
+    /// The thunk with these parts.
+    pub(crate) fn from_parts(
+        function: Ref,
+        args: Many<Bytes>,
+        envs: Many<(Bytes, Bytes)>,
+        inputs: Many<(Path, Ref)>,
+        outputs: Many<Path>,
+    ) -> Self
+        requires { IsThunk (record { function = function; args = args; envs = envs; inputs = inputs; outputs = outputs }) }
+        ensures { result ≡ record { function = function; args = args; envs = envs; inputs = inputs; outputs = outputs } }
+    {
+        Thunk {
+            function,
+            args,
+            envs,
+            inputs,
+            outputs,
+        }
+    }
+
     pub fn function(&self) -> &Ref
         ensures function { result.now ≡ self.now.function }
         ensures rules { IsThunk self.now }
