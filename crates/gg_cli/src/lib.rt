@@ -2,6 +2,8 @@
 #![tactic(auto)]
 
 mod cat;
+mod fault;
+mod saying;
 mod status;
 mod top;
 mod words;
