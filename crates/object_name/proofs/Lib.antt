@@ -3,3 +3,4 @@ pub mod NameLemmas
 pub mod NumberLemmas
 pub mod NameOrder
 pub mod StreamLemmas
+pub mod CallLemmas
