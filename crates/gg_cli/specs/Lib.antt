@@ -8,3 +8,4 @@ pub mod Codes
 pub mod Commands
 pub mod Faults
 pub mod Writing
+pub mod Ending

@@ -1,11 +1,13 @@
 //! Why a command line isn't done.
 
 ghost use Rattle.std.specs.Prelude.{◌≡◌};
+ghost use Rattle.gg_cli.specs.declared.fault.TopFault.TheVariants.{Memory};
 ghost use Rattle.gg_cli.specs.Answer.{refusal_status};
 
 use crate::status::Status;
 use need_eval::Refusal;
 use object_name::Name;
+use std::alloc::{AllocError, AllocFailed};
 
 /// Why a command line isn't done.
 #[derive(Clone, Copy, Debug, PartialEq, Eq)]
@@ -24,6 +26,22 @@ pub(crate) enum TopFault {
     OutputFailed,
     /// Memory was refused.
     Memory,
+}
+
+impl From<AllocError> for TopFault {
+    ghost from_gives = { λ _ fault. fault ≡ Memory };
+
+    fn from(_: AllocError) -> Self {
+        TopFault::Memory
+    }
+}
+
+impl<T: Drop> From<AllocFailed<T>> for TopFault {
+    ghost from_gives = { λ _ fault. fault ≡ Memory };
+
+    fn from(_: AllocFailed<T>) -> Self {
+        TopFault::Memory
+    }
 }
 
 /// The status of a refusal.

@@ -3,6 +3,7 @@
 
 mod cat;
 mod fault;
+mod forcing;
 mod saying;
 mod status;
 mod top;

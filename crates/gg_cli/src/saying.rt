@@ -3,8 +3,9 @@
 ghost use Rattle.std.specs.Prelude.{◌≡◌, ◌++◌, codes, decimal};
 ghost use Rattle.object_name.specs.Name.{spelling};
 ghost use Rattle.gg_cli.specs.Texts.{refusal_text, fault_line};
-ghost use Rattle.gg_cli.specs.Faults.{fault_text, fault_status};
+ghost use Rattle.gg_cli.specs.Faults.{fault_text};
 ghost use Rattle.gg_cli.specs.Writing.{Writes};
+ghost use Rattle.gg_cli.specs.Ending.{Speaks};
 
 use crate::fault::TopFault;
 use crate::status::Status;
@@ -98,4 +99,15 @@ fn write_line<S: Sink>(alloc: Global, sink: &mut S, fault: &TopFault) -> Result<
     write(sink, b"gg: ")?;
     write_text(alloc, sink, fault)?;
     write(sink, b"\n")
+}
+
+/// Says the line of a fault, and answers the status that stands then: that of the fault, or want of memory.
+pub(crate) fn say<S: Sink>(alloc: Global, sink: &mut S, fault: &TopFault) -> Status
+    ensures { Speaks fault.now result (S.written sink.old) (S.written sink.new) (S.faults sink.old) (S.faults sink.new) }
+{
+    match write_line(alloc, sink, fault) {
+        Ok(()) => fault.status(),
+        Err(Trouble::Failed) => fault.status(),
+        Err(Trouble::Memory) => Status::Memory,
+    }
 }
