@@ -1,10 +1,10 @@
 -- What is known after an evaluation, by how it ended.
-use Rattle.std.proofs.Common.{◌≡◌, ℕ, List, [], ◌∷◌, ◌++◌, Ok, Err, refl, sym, ◌∙◌}
+use Rattle.std.proofs.Common.{◌≡◌, ℕ, List, [], ◌∷◌, Ok, Err, refl, ◌∙◌}
 use Rattle.std.specs.Prelude.{Option}
 use Rattle.std.specs.List.{AllByRecursion}
 use Rattle.std.proofs.KnownBytes.{Appends-nil}
 use Rattle.object_name.specs.Name.{ObjectName}
-use Rattle.object_name.specs.Streams.{IsFront, AppendsFront}
+use Rattle.object_name.specs.Streams.{AppendsFront}
 use Rattle.thunk_codec.specs.declared.reference.Ref.{Ref}
 use Rattle.thunk_codec.specs.declared.job.Job.{Job}
 use Rattle.blob_store.specs.Store.{Store, written}
@@ -12,16 +12,16 @@ use Rattle.need_eval.specs.declared.fault.Refusal.{Refusal}
 use Rattle.need_eval.specs.declared.fault.Refusal.TheVariants as refusals
 use Rattle.need_eval.specs.declared.fault.EvalFault.{EvalFault}
 use Rattle.need_eval.specs.declared.fault.EvalFault.TheVariants as faults
-use Rattle.need_eval.specs.Eval.{Ended, Got, Stopped, State, Stop, Refused, NotBuilt, Clash, start}
+use Rattle.need_eval.specs.Eval.{Ended, Got, Stopped, Stop, Refused, NotBuilt, Clash, start}
 use Rattle.need_eval.specs.Evaluation.{values_of, by_function}
 use Rattle.need_eval.specs.declared.evaluating.Values.{Values}
 use Rattle.need_eval.specs.Evaluating.{EvaluatesAll}
 use Rattle.gg_cli.specs.Cat.{tool_outcome}
-use Rattle.need_eval.specs.PartWay.{state_after, IsPartWay, Gives, StopsWith, Stops, Does}
+use Rattle.need_eval.specs.PartWay.{state_after, IsPartWay, Gives, StopsWith, Stops}
 use Rattle.need_eval.proofs.Growth.{store_is_written}
 use Rattle.gg_cli.specs.declared.fault.TopFault.{TopFault}
 use Rattle.gg_cli.specs.declared.fault.TopFault.TheVariants as tops
-use Rattle.gg_cli.specs.Texts.{fault_line, refusal_text, stop_text, value_lines}
+use Rattle.gg_cli.specs.Texts.{fault_line, refusal_text, stop_text}
 use Rattle.gg_cli.specs.Answer.{Answer, forced, refusal_status, stop_status, default_budget}
 use Rattle.gg_cli.specs.Faults.{IsFaultOf}
 use Rattle.gg_cli.specs.Comes.{Made, MadeFront, IsWhole}

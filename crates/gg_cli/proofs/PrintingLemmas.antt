@@ -1,10 +1,9 @@
 -- Printing line after line.
-use Rattle.std.proofs.Common.{◌≡◌, ℕ, ◌≤◌, List, [], ◌∷◌, ◌++◌, length, Result, Ok, Err, IsErr, IsErrAnd, ◌⊎◌, inl, inr, refl, sym, ap, subst, ◌∙◌, append_assoc, append-nil, le_refl, arith}
+use Rattle.std.proofs.Common.{◌≡◌, ℕ, ◌≤◌, List, [], ◌∷◌, ◌++◌, length, Result, Ok, Err, IsErr, IsErrAnd, ◌⊎◌, inl, inr, refl, sym, ap, subst, ◌∙◌, append_assoc, append-nil, arith}
 use Rattle.std.specs.Prelude.{Option}
 use Rattle.std.specs.Io.KnownBytes.{Appends}
-use Rattle.std.proofs.KnownBytes.{Appends-nil, Appends-trans}
+use Rattle.std.proofs.KnownBytes.{Appends-trans}
 use Rattle.object_name.specs.Name.{ObjectName}
-use Rattle.object_name.specs.Streams.{IsFront, AppendsFront}
 use Rattle.object_name.specs.declared.trouble.Trouble.{Trouble}
 use Rattle.thunk_codec.specs.declared.reference.Ref.{Ref}
 use Rattle.gg_cli.specs.Texts.{value_line, value_lines}

@@ -1,12 +1,12 @@
 -- Writing one text after another.
-use Rattle.std.proofs.Common.{◌≡◌, ℕ, List, [], ◌++◌, Result, Ok, Err, OnOk, None, Some, append_assoc, append-nil, sym, ◌∙◌, arith, refl, ap, IsErr, IsErrAnd}
+use Rattle.std.proofs.Common.{◌≡◌, ℕ, List, ◌++◌, Result, Ok, Err, OnOk, append_assoc, sym, ◌∙◌, arith, refl, ap, IsErr, IsErrAnd}
 use Rattle.std.specs.Prelude.{Option}
 use Rattle.std.specs.Io.KnownBytes.{Appends}
-use Rattle.std.proofs.KnownBytes.{Appends-nil, Appends-trans}
+use Rattle.std.proofs.KnownBytes.{Appends-trans}
 use Rattle.object_name.specs.declared.trouble.Trouble.{Trouble}
 use Rattle.object_name.specs.declared.trouble.Trouble.TheVariants.{Failed, Memory}
 use Rattle.object_name.specs.Causes.{HasCause}
-use Rattle.object_name.specs.Streams.{IsFront, AppendsFront}
+use Rattle.object_name.specs.Streams.{AppendsFront}
 use Rattle.gg_cli.specs.Writing.{Writes}
 
 -- a front of a text is a front of a longer one

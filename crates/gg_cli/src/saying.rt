@@ -31,7 +31,12 @@ fn write_counted<S: Sink>(
 }
 
 /// Writes that a thunk's function failed.
-fn write_failure<S: Sink>(alloc: Global, sink: &mut S, name: &Name, status: u8) -> Result<(), Trouble>
+fn write_failure<S: Sink>(
+    alloc: Global,
+    sink: &mut S,
+    name: &Name,
+    status: u8,
+) -> Result<(), Trouble>
     ensures { Writes (codes "function failed: " ++ (spelling name.now ++ (codes " status " ++ decimal status))) (S.written sink.old) (S.written sink.new) (S.faults sink.old) (S.faults sink.new) result }
 {
     write_named(sink, b"function failed: ", name)?;
@@ -46,8 +51,22 @@ fn write_refusal<S: Sink>(alloc: Global, sink: &mut S, refusal: &Refusal) -> Res
     match refusal {
         Refusal::Missing(name) => write_named(sink, b"missing object ", name),
         Refusal::BadThunk(name) => write_named(sink, b"bad thunk ", name),
-        Refusal::NoOutput { name, index } => write_counted(alloc, sink, b"no output ", u64::from(*index), b" of ", name),
-        Refusal::Spent { name, budget } => write_counted(alloc, sink, b"budget of ", u64::from(*budget), b" steps spent at ", name),
+        Refusal::NoOutput { name, index } => write_counted(
+            alloc,
+            sink,
+            b"no output ",
+            u64::from(*index),
+            b" of ",
+            name,
+        ),
+        Refusal::Spent { name, budget } => write_counted(
+            alloc,
+            sink,
+            b"budget of ",
+            u64::from(*budget),
+            b" steps spent at ",
+            name,
+        ),
         Refusal::FunctionFailed { name, status } => write_failure(alloc, sink, name, *status),
     }
 }

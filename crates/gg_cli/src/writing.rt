@@ -25,7 +25,11 @@ pub(crate) fn write_named<S: Sink>(sink: &mut S, said: &[u8], name: &Name) -> Re
 }
 
 /// Writes a number.
-pub(crate) fn write_decimal<S: Sink>(alloc: Global, sink: &mut S, number: u64) -> Result<(), Trouble>
+pub(crate) fn write_decimal<S: Sink>(
+    alloc: Global,
+    sink: &mut S,
+    number: u64,
+) -> Result<(), Trouble>
     ensures { Writes (decimal number) (S.written sink.old) (S.written sink.new) (S.faults sink.old) (S.faults sink.new) result }
 {
     let mut digits = Bytes::new(alloc);

@@ -1,4 +1,4 @@
-use Rattle.std.proofs.Common.{◌⊎◌, inl, inr}
+use Rattle.std.proofs.Common.{inl, inr}
 use Rattle.gg_cli.proofs.PrintingLemmas.{Printed-more, Printed-stop, Printed-all, value_lines-end}
 use Rattle.gg_cli.proofs.printing.print_values.Goals as goal
 
