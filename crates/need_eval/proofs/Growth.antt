@@ -33,7 +33,8 @@ Grows-both s t u first then = record {
 pub Grows-kept : IsKept Grows
 Grows-kept = record { same = Grows-same; both = Grows-both }
 
-Grows-write : (write : Write) (s : State) → Grows s (record s { store = after_write s.store write; writes = s.writes ++ write ∷ [] })
+-- one write
+pub Grows-write : (write : Write) (s : State) → Grows s (record s { store = after_write s.store write; writes = s.writes ++ write ∷ [] })
 Grows-write write s = record { made = write ∷ []; writes = refl; store = refl }
 
 -- where the store and the writes stay

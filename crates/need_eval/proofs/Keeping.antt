@@ -55,7 +55,7 @@ module _ (R : State → State → Type 0) (kept : IsKept R) where
   keeps-object : (name : ObjectName) → Keeps R (object name)
   keeps-object name s = keeps-need (held s.store.objects name) (Refused (Missing name)) s
 
-  keeps-held_value : (name : ObjectName) → Keeps R (held_value name)
+  pub keeps-held_value : (name : ObjectName) → Keeps R (held_value name)
   keeps-held_value name = keeps-then (object name) (λ _. give name) (keeps-object name) (λ _ s. kept.same s)
 
   keeps-thunk_at : (name : ObjectName) → Keeps R (thunk_at name)

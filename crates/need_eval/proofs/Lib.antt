@@ -1,2 +1,11 @@
 pub mod Keeping
 pub mod Growth
+pub mod ReadOnly
+pub mod Going
+pub mod Inputs
+pub mod Resolving
+pub mod Preparing
+pub mod StoreOne
+pub mod Outputs
+pub mod Whole
+pub mod Finishing

@@ -2,3 +2,4 @@ pub mod Eval
 pub mod Evaluation
 pub mod PartWay
 pub mod Evaluating
+pub mod Pieces

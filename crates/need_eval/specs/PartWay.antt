@@ -1,7 +1,7 @@
 -- What a call that evaluates has done: all that the definition says, or a front of its writes.
 use Rattle.std.specs.Prelude.{◌≡◌, ℕ, List, ◌++◌, Result, Ok, Err}
 use Rattle.std.specs.List.{AllZip}
-use Rattle.object_name.specs.Name.{ObjectName}
+use Rattle.object_name.specs.Name.{ObjectName, name_of}
 use Rattle.object_name.specs.Causes.{Rose, RoseBy}
 use Rattle.thunk_codec.specs.declared.job.Job.{Job}
 use Rattle.thunk_codec.specs.declared.job.Outcome.{Outcome}
@@ -23,6 +23,12 @@ pub record IsPartWay {A : Type 0} (s : State) (e : Ended A) (now : Store) : Type
   pub others : List Write
   pub list : (state_after e).writes ≡ s.writes ++ (front ++ others)
   pub kept : now ≡ written s.store front
+
+-- two byte strings that differ have this name
+pub record HaveOneName (name : ObjectName) (found fresh : List ℕ) : Type 0 where
+  pub first : name_of found ≡ name
+  pub second : name_of fresh ≡ name
+  pub differ : found ≡ fresh → ⊥
 
 -- the evaluation stops so, and the store is as it leaves it
 pub record StopsWith {A : Type 0} (why : Stop) (e : Ended A) (now : Store) : Type 0 where
@@ -64,3 +70,13 @@ EvalCause retries kept_before kept_after run_before run_after (Err (faults.Clash
 EvalCause retries kept_before kept_after run_before run_after (Err faults.StoreFailed) = RoseBy retries kept_before kept_after
 EvalCause retries kept_before kept_after run_before run_after (Err faults.RunFailed) = Rose run_before run_after
 EvalCause retries kept_before kept_after run_before run_after (Err faults.Memory) = Unit {0}
+
+-- a clash shows two byte strings that differ and have one name
+abbrev pub ClashShows : Result Values EvalFault → Type 0
+ClashShows (Ok values) = Unit {0}
+ClashShows (Err (faults.Refused refusal)) = Unit {0}
+ClashShows (Err (faults.NotBuilt name)) = Unit {0}
+ClashShows (Err (faults.Clash name found fresh)) = HaveOneName name found fresh
+ClashShows (Err faults.StoreFailed) = Unit {0}
+ClashShows (Err faults.RunFailed) = Unit {0}
+ClashShows (Err faults.Memory) = Unit {0}

@@ -1,5 +1,6 @@
 -- Bytes written or read piece by piece.
-use Rattle.std.proofs.Common.{◌≡◌, ◌≤◌, ◌<◌, ◌+◌, ◌-◌, ℕ, List, ◌++◌, length, take, drop, Option, ap, sym, ◌∙◌, subst, arith}
+use Rattle.std.proofs.Common.{◌≡◌, ◌≤◌, ◌<◌, ◌+◌, ◌-◌, ℕ, List, ◌++◌, length, take, drop, Option, Some, None, ap, sym, ◌∙◌, subst, arith}
+use Rattle.std.specs.Prelude.{IfSome}
 use Rattle.std.specs.Io.KnownBytes.{Appends, Consumes, Keeps}
 use Rattle.std.proofs.KnownBytes.{Appends-trans, Appends-kept, Consumes-trans}
 use Rattle.std.proofs.lemmas.List.{take-append-drop, take_all, length-append, length-drop, length-take, length-take-le}
@@ -52,3 +53,11 @@ loses_up_to a b c bytes buf count size before more within sum = record {
 -- what is past the limit is one byte past it, where no more was asked for
 pub one_past : (piece : List ℕ) (asked want len count limit : ℕ) → count ≤ asked → asked ≡ length (take want piece) → want ≤ limit - len + 1 → limit - len < count → len ≤ limit → len + count ≡ limit + 1
 one_past piece asked want len count limit within same most over below = omega (arith, within, same, most, over, below, length-take want piece)
+
+-- bytes that lose one more than a limit are over it
+pub loses_over : (a b : Option (List ℕ)) (limit : ℕ) → LosesFront a b (limit + 1) → IfSome a (λ all. limit < length all)
+loses_over None b limit loss = tt
+loses_over (Some all) None limit loss = absurd loss.lost
+loses_over (Some all) (Some rest) limit loss =
+    let whole = ap length loss.lost in
+    omega (arith, whole, length-append loss.front rest, loss.sized)

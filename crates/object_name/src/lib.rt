@@ -14,6 +14,8 @@ mod read_source;
 mod sink;
 mod source;
 mod spelling;
+#[cfg(test)]
+mod tests;
 mod trouble;
 mod try_copy;
 mod write_sink;
@@ -24,7 +26,7 @@ pub use kind::{Kind, kind_of};
 pub use many::Many;
 pub use mem_sink::MemSink;
 pub use mem_source::MemSource;
-pub use name::{Name, TooLong, name_of};
+pub use name::{MAX_SIZE, Name, TooLong, name_of};
 pub use number::{read_number, write_number};
 pub use read_source::ReadSource;
 pub use sink::{Sink, write_all};

@@ -10,7 +10,7 @@ use crate::calls::Calls;
 use crate::many::Many;
 use crate::source::Source;
 use crate::trouble::Trouble;
-use std::alloc::{AllocError, Global};
+use std::alloc::AllocError;
 use std::marker::Model;
 
 /// A source in memory, of which the calls with listed numbers fail.
@@ -34,7 +34,7 @@ impl Model for MemSource {
 
 impl MemSource {
     /// A source of these bytes. Its reads are numbered from 1.
-    pub fn new(_alloc: Global, bytes: Bytes, failing: Many<u64>) -> Result<Self, AllocError>
+    pub fn new(bytes: Bytes, failing: Many<u64>) -> Result<Self, AllocError>
         ensures { IfOk result (λ s. s ≡ record { content = bytes; calls = record { failing = failing; count = 0; faults = 0 } }) }
     {
         let Bytes(content) = bytes;

@@ -85,6 +85,7 @@ pub fn read_all<S: Source>(alloc: Global, source: &mut S, limit: usize) -> Resul
     ensures end { OnOk result (IsAtEnd (S.left source.new)) }
     ensures fits { IfOk result (λ bytes. length bytes ≤ limit) }
     ensures too_long { IsErrOf result ReadEnd.TooLong → LosesFront (S.left source.old) (S.left source.new) (limit + 1) }
+    ensures over { IsErrOf result ReadEnd.TooLong → IfSome (S.left source.old) (λ all. limit < length all) }
     ensures front { LosesUpTo (S.left source.old) (S.left source.new) (limit + 1) }
     ensures failed { IsErrOf result ReadEnd.Failed → Rose (S.faults source.old) (S.faults source.new) }
     ensures later { S.faults source.old ≤ S.faults source.new }

@@ -43,22 +43,22 @@ job_size_by_lengths j =
 
 -- ---- the sums of a thunk are below the limits of numbers
 
-length-arg_line : (arg : List ℕ) → 4 + length arg ≤ length (arg_line arg)
+pub length-arg_line : (arg : List ℕ) → 4 + length arg ≤ length (arg_line arg)
 length-arg_line arg = simp length-append (omega arith)
 
 line_args : (args : List (List ℕ)) → sum_by (λ arg. 4 + length arg) args ≤ length (flat_map arg_line args)
 line_args args = rw length-flat_map (sum_by-le-sum_by (λ (arg : List ℕ). 4 + length arg) (λ arg. length (arg_line arg)) args length-arg_line)
 
-length-output_line : (output : List ℕ) → 4 + length output ≤ length (output_line output)
+pub length-output_line : (output : List ℕ) → 4 + length output ≤ length (output_line output)
 length-output_line output = simp length-append (omega arith)
 
 line_outputs : (outputs : List (List ℕ)) → sum_by (λ output. 4 + length output) outputs ≤ length (flat_map output_line outputs)
 line_outputs outputs = rw length-flat_map (sum_by-le-sum_by (λ (output : List ℕ). 4 + length output) (λ output. length (output_line output)) outputs length-output_line)
 
-length-line : (letter : ℕ) (said : List ℕ) → length (line letter said) ≡ 3 + length said
+pub length-line : (letter : ℕ) (said : List ℕ) → length (line letter said) ≡ 3 + length said
 length-line letter said = simp length-append (omega arith)
 
-length-counted : (bytes : List ℕ) → 1 + length bytes ≤ length (counted bytes)
+pub length-counted : (bytes : List ℕ) → 1 + length bytes ≤ length (counted bytes)
 length-counted bytes = simp length-append (omega arith)
 
 length-env_line : (env : List ℕ × List ℕ) → 5 + length env.0 + length env.1 ≤ length (env_line env)
@@ -73,7 +73,7 @@ line_envs (env ∷ envs) =
     let lines = ap length (flat_map-cons env_line env envs) ∙ length-append (env_line env) (flat_map env_line envs) in
     omega (arith, head, lines, length-env_line env, line_envs envs)
 
-length-input_line : (input : List ℕ × Ref) → 5 + length input.0 ≤ length (input_line input)
+pub length-input_line : (input : List ℕ × Ref) → 5 + length input.0 ≤ length (input_line input)
 length-input_line input = simp length-append (omega arith)
 
 ref_size : (r : Ref) → IsRef r → (ref_name r).size ≤ max_size

@@ -6,3 +6,5 @@ pub mod Thunk
 pub mod Reading
 pub mod Job
 pub mod Outcome
+pub mod Gives
+pub mod Raw

@@ -4,10 +4,15 @@
 mod decoding;
 mod function;
 mod job;
+pub mod laws;
+mod lines;
 mod normal;
+mod parts;
 mod path;
+mod reading;
 mod reference;
 mod resolved;
+mod rules;
 mod thunk;
 
 pub use decoding::{DecodeFault, decode};

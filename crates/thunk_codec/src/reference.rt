@@ -1,11 +1,15 @@
 //! References to objects: values by name, and outputs of thunks.
 
-ghost use Rattle.std.specs.Prelude.{◌≡◌, ◌++◌, IfSome, OnOk, OnErr};
-ghost use Rattle.thunk_codec.specs.Reference.{IsRef, ref_text};
+ghost use Rattle.std.specs.Prelude.{◌≡◌, ◌++◌, ◌∷◌, ◌<◌, take, length, decimal, IfSome, Some, OnOk, OnErr};
+ghost use Rattle.thunk_codec.specs.declared.reference.Ref.{Ref};
+ghost use Rattle.thunk_codec.specs.Reference.{IsRef, ref_text, ref_of, value_ref_of, out_ref_of};
 ghost use Rattle.thunk_codec.specs.Job.{ref_name};
 
-use object_name::{Bytes, Name};
+use object_name::{Bytes, Kind, Name, read_number, write_number};
 use std::alloc::AllocError;
+
+/// How long the spelling of a name is.
+const SPELLING: usize = 52;
 
 /// A value by its name, or an output of a thunk by the thunk's name and the output's place, from 0.
 #[derive(Clone, Copy, Debug, PartialEq, Eq)]
@@ -15,7 +19,8 @@ pub enum Ref {
 }
 
 impl Ref {
-    ghost use Rattle.thunk_codec.specs.Reference.{IsRef, ref_text};
+    ghost use Rattle.thunk_codec.specs.declared.reference.Ref.{Ref};
+    ghost use Rattle.thunk_codec.specs.Reference.{IsRef, ref_text, ref_of};
     ghost use Rattle.thunk_codec.specs.Job.{ref_name};
 
     /// The name in it.
@@ -29,11 +34,13 @@ impl Ref {
     }
 
     /// The reference that a text spells: the name of a value, or the name of a thunk, `#`, and a decimal number below 2^32.
+    #[tactic(auto, unfolding(crate::specs::Reference::ref_of))]
     pub fn read(text: &[u8]) -> Option<Ref>
         ensures found { IfSome result (λ r. IsRef r × (text.now ≡ ref_text r)) }
+        ensures only { (r : Ref) → IsRef r → text.now ≡ ref_text r → result ≡ Some r }
+        ensures exact { result ≡ ref_of text.now }
     {
-        let _ = text;
-        None
+        read_ref(text)
     }
 
     /// Appends the spelling.
@@ -42,7 +49,77 @@ impl Ref {
         ensures ok { OnOk result (out.new ≡ out.old ++ ref_text self.now) }
         ensures err { OnErr result (out.new ≡ out.old) }
     {
-        let _ = out;
-        Err(AllocError)
+        let mut spelling = [0; 52];
+        self.name().spell(&mut spelling);
+        match self {
+            Ref::Value(_) => out.append(&spelling),
+            Ref::Out(_, index) => write_output(&spelling, *index, out),
+        }
     }
+}
+
+/// The value that a text names.
+fn read_value(text: &[u8]) -> Option<Ref>
+    ensures { result ≡ value_ref_of text.now }
+{
+    let name = Name::read(text)?;
+    match name.kind() {
+        Kind::Value => Some(Ref::Value(name)),
+        Kind::Thunk => None,
+    }
+}
+
+/// The output that a text names.
+fn read_output(text: &[u8]) -> Option<Ref>
+    requires { 52 < length text.now }
+    ensures { result ≡ out_ref_of text.now }
+{
+    let (front, rest) = text.split_at(SPELLING);
+    let name = Name::read(front)?;
+    if name.kind() == Kind::Value {
+        return None;
+    }
+    if rest[0] != b'#' {
+        return None;
+    }
+    let index = read_number(&rest[1..])?;
+    if index > u64::from(u32::MAX) {
+        return None;
+    }
+    Some(Ref::Out(name, index as u32))
+}
+
+/// The reference that a text spells.
+#[tactic(auto, unfolding(crate::specs::Reference::ref_of))]
+fn read_ref(text: &[u8]) -> Option<Ref>
+    ensures { result ≡ ref_of text.now }
+{
+    if text.len() <= SPELLING {
+        read_value(text)
+    } else {
+        read_output(text)
+    }
+}
+
+/// Appends the spelling of an output, whose thunk is spelled so.
+fn write_output(spelling: &[u8], index: u32, out: &mut Bytes) -> Result<(), AllocError>
+    ensures ok { OnOk result (out.new ≡ out.old ++ (spelling.now ++ 35 ∷ decimal index)) }
+    ensures err { OnErr result (out.new ≡ out.old) }
+{
+    let len = out.len();
+    let done = append_output(spelling, index, out);
+    if done.is_err() {
+        out.0.truncate(len);
+    }
+    done
+}
+
+/// Appends the spelling of an output, or a front of it.
+fn append_output(spelling: &[u8], index: u32, out: &mut Bytes) -> Result<(), AllocError>
+    ensures ok { OnOk result (out.new ≡ out.old ++ (spelling.now ++ 35 ∷ decimal index)) }
+    ensures kept { take (length out.old) out.new ≡ out.old }
+{
+    out.append(spelling)?;
+    out.append(b"#")?;
+    write_number(u64::from(index), out)
 }

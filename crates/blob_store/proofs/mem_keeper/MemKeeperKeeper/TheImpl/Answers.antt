@@ -1,0 +1,20 @@
+use Rattle.std.proofs.Common.{inl}
+use Rattle.std.proofs.lemmas.Result.{on_ok_weaker, on_err_weaker}
+use Rattle.blob_store.proofs.MemoryLemmas.{store_of-with_object, store_of-with_note, store_of-called}
+use Rattle.blob_store.proofs.mem_keeper.MemKeeperKeeper.TheImpl.Goals as goal
+
+pub put-tells : goal.put-tells
+put-tells c =
+    record {
+      made = λ _. on_ok_weaker c.result (store_of-with_object c.args.self.now c.new.self.now c.args.name.now c.args.bytes.now) c.ensures.made;
+      kept = λ _. on_err_weaker c.result (λ same. inl (store_of-called c.args.self.now c.new.self.now same)) c.ensures.kept;
+      cause = c.ensures.cause;
+    }
+
+pub put_note-tells : goal.put_note-tells
+put_note-tells c =
+    record {
+      made = λ _. on_ok_weaker c.result (store_of-with_note c.args.self.now c.new.self.now c.args.name.now c.args.bytes.now) c.ensures.made;
+      kept = λ _. on_err_weaker c.result (λ same. inl (store_of-called c.args.self.now c.new.self.now same)) c.ensures.kept;
+      cause = c.ensures.cause;
+    }

@@ -1,0 +1,52 @@
+//! The program gg: makes the store, the outputs and the words real, and hands them to the call that does the work.
+#![tactic(auto)]
+
+use blob_store::FolderKeeper;
+use gg_cli::{Status, gg_top};
+use object_name::{Sink, WriteSink, write_all};
+use std::alloc::AllocError;
+use std::io::ErrorKind;
+use std::process::ExitCode;
+use std::{env, io};
+
+/// The folder of the store, in the current folder.
+const STORE: &str = ".gg";
+
+/// The words after the program's own. Words that aren't text are no command line, as no words are.
+fn words(rt: &HostRuntime) -> Result<Vec<String>, AllocError> {
+    let mut words = Vec::new(rt.alloc());
+    match env::args(rt) {
+        Ok(args) => {
+            for word in args.skip(1) {
+                words.push(word)?;
+            }
+        }
+        Err(error) if error.kind() == ErrorKind::OutOfMemory => return Err(AllocError),
+        Err(_) => {}
+    }
+    Ok(words)
+}
+
+/// Does the command line of the process.
+fn run<E: Sink>(rt: &HostRuntime, err: &mut E) -> Result<Status, AllocError> {
+    let alloc = rt.alloc();
+    let words = words(rt)?;
+    let mut keeper = FolderKeeper::new(alloc, HostRuntime::clone(rt)?, STORE)?;
+    let stdout = rt.stdout();
+    let mut out = WriteSink::new(io::writer(&stdout));
+    Ok(gg_top(alloc, words.as_slice(), &mut keeper, &mut out, err))
+}
+
+fn main(rt: HostRuntime) -> ExitCode {
+    let stderr = rt.stderr();
+    let mut err = WriteSink::new(io::writer(&stderr));
+    let status = match run(&rt, &mut err) {
+        Ok(status) => status,
+        Err(AllocError) => {
+            // The status says so even where standard error can't be written.
+            let _ = write_all(&mut err, b"gg: want of memory\n");
+            Status::Memory
+        }
+    };
+    ExitCode::from(status.code())
+}

@@ -1,0 +1,41 @@
+//! Laws of references, thunks and jobs that no single call shows.
+
+ghost use Rattle.std.specs.Prelude.{◌≡◌, ◌↔◌, ◌++◌, [], List, ℕ, Some, length, map};
+ghost use Rattle.thunk_codec.specs.declared.job.Job.{Job};
+ghost use Rattle.thunk_codec.specs.declared.reference.Ref.{Ref};
+ghost use Rattle.thunk_codec.specs.Reference.{IsRef, ref_text, ref_of};
+ghost use Rattle.thunk_codec.specs.Thunk.{Parts, Text};
+ghost use Rattle.thunk_codec.specs.Reading.{thunk_of};
+ghost use Rattle.thunk_codec.specs.Job.{job_size, size_by_lengths};
+
+/// Two references with one text are one reference.
+pub fn one_ref_text()
+    ensures { (r : Ref) (s : Ref) → IsRef r → IsRef s → ref_text r ≡ ref_text s → r ≡ s }
+{}
+
+/// Reading is the inverse of spelling.
+pub fn refs_read_back()
+    ensures spelled { (r : Ref) → IsRef r → ref_of (ref_text r) ≡ Some r }
+    ensures named { (text : List ℕ) (r : Ref) → ref_of text ≡ Some r → IsRef r × (text ≡ ref_text r) }
+{}
+
+/// Reading a thunk's text as a total function reads exactly the texts of thunks.
+pub fn texts_read_back()
+    ensures { (bytes : List ℕ) (t : Parts) → (thunk_of bytes ≡ Some t) ↔ Text bytes t }
+{}
+
+/// A text is that of one thunk, and a thunk has one text.
+pub fn one_text()
+    ensures thunk { (bytes : List ℕ) (t : Parts) (u : Parts) → Text bytes t → Text bytes u → t ≡ u }
+    ensures text { (a : List ℕ) (b : List ℕ) (t : Parts) → Text a t → Text b t → a ≡ b }
+{}
+
+/// No proper front of a thunk's text is a thunk's text.
+pub fn no_front()
+    ensures { (bytes : List ℕ) (rest : List ℕ) (t : Parts) (u : Parts) → Text bytes t → Text (bytes ++ rest) u → rest ≡ [] }
+{}
+
+/// The length of a job's encoding is known from the lengths of its objects.
+pub fn job_length()
+    ensures { (j : Job) → job_size j ≡ size_by_lengths (length j.function) j.args j.envs (map (λ i. (i.0, length i.1)) j.inputs) j.outputs }
+{}

@@ -1,0 +1,94 @@
+//! The rules that the parts of a thunk keep.
+
+ghost use Rattle.std.specs.Prelude.{◌≡◌, ◌&&◌, ◌||◌, not, map, bytes_eq};
+ghost use Rattle.std.specs.List.{list_all, list_any};
+ghost use Rattle.std.specs.Ordering.{nat_cmp, is_lt};
+ghost use Rattle.std.specs.Cmp.Lexicographic.{slice_cmp};
+ghost use Rattle.thunk_codec.specs.Raw.{parts_of, keeps_numbers, keeps_bytes, keeps_orders};
+ghost use Rattle.thunk_codec.specs.Thunk.{has_no_zero, is_letter, is_digit, is_identifier, rises, are_distinct};
+
+use crate::parts::RawParts;
+use object_name::Bytes;
+
+/// Whether no byte is zero.
+fn has_no_zero(bytes: &[u8]) -> bool
+    ensures { result ≡ has_no_zero bytes.now }
+{
+    bytes.iter().all(|byte| *byte != 0)
+}
+
+/// Whether a byte may begin an identifier.
+fn is_letter(byte: u8) -> bool
+    ensures { result ≡ is_letter byte }
+{
+    byte.is_ascii_uppercase() || byte.is_ascii_lowercase() || byte == b'_'
+}
+
+/// Whether a byte may stand in an identifier behind the first.
+fn is_letter_or_digit(byte: u8) -> bool
+    ensures { result ≡ (is_letter byte || is_digit byte) }
+{
+    is_letter(byte) || (48 <= byte && byte <= 57)
+}
+
+/// Whether all bytes may stand in an identifier behind the first.
+fn are_letters_or_digits(text: &[u8]) -> bool
+    ensures { result ≡ list_all (λ byte. is_letter byte || is_digit byte) text.now }
+{
+    text.iter().all(|byte| is_letter_or_digit(*byte))
+}
+
+/// Whether a text is a letter or `_`, and then letters, digits and `_`.
+fn is_identifier(text: &[u8]) -> bool
+    ensures { result ≡ is_identifier text.now }
+{
+    match text {
+        [] => false,
+        [first, others @ ..] => is_letter(*first) && are_letters_or_digits(others),
+    }
+}
+
+/// Whether a text is before another, byte by byte.
+fn is_before(first: &[u8], second: &[u8]) -> bool
+    ensures { result ≡ is_lt (slice_cmp nat_cmp first.now second.now) }
+{
+    first.cmp(second).is_lt()
+}
+
+/// Whether each text is before the next.
+fn rise<T>(items: &[(Bytes, T)]) -> bool
+    ensures { result ≡ rises (map (λ item. item.0) items.now) }
+{
+    let mut rest = items;
+    'items: while let [first, others @ ..] = rest {
+        let Some(second) = others.first() else {
+            return true;
+        };
+        if !is_before(first.0.as_slice(), second.0.as_slice()) {
+            return false;
+        }
+        rest = others;
+    }
+    true
+}
+
+/// Whether a text is one of some.
+fn is_among(text: &[u8], others: &[Bytes]) -> bool
+    ensures { result ≡ list_any (bytes_eq text.now) others.now }
+{
+    others.iter().any(|other| text == other.as_slice())
+}
+
+/// Whether no text stands twice.
+fn are_distinct(texts: &[Bytes]) -> bool
+    ensures { result ≡ are_distinct texts.now }
+{
+    let mut rest = texts;
+    'texts: while let [first, others @ ..] = rest {
+        if is_among(first.as_slice(), others) {
+            return false;
+        }
+        rest = others;
+    }
+    true
+}

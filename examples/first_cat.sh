@@ -1,0 +1,55 @@
+#!/bin/sh
+# Makes a small store in a new folder, with a thunk that joins three values, and forces it twice.
+# It needs nothing but a shell, sha256sum and base64. The one argument, if given, is the folder to use.
+set -eu
+here=$(cd "$(dirname "$0")/.." && pwd)
+folder=${1:-$(mktemp -d)}
+mkdir -p "$folder/.gg/objects"
+cd "$folder"
+
+# The bytes of a digest in hexadecimal.
+bytes_of_hex() {
+    rest=$1
+    while [ -n "$rest" ]; do
+        others=${rest#??}
+        printf "\\$(printf '%03o' "0x${rest%"$others"}")"
+        rest=$others
+    done
+}
+
+# Keeps a file as an object of the store, and prints its name.
+keep() {
+    kind=V
+    if [ "$(head -c 9 "$1")" = "gg-thunk " ]; then
+        kind=T
+    fi
+    digest=$(sha256sum "$1" | cut -c1-64)
+    spelled=$(bytes_of_hex "$digest" | base64 | tr '+/' '-_' | tr -d '=\n')
+    size=$(wc -c <"$1")
+    name=$(printf '%s%s%08x' "$kind" "$spelled" "$size")
+    cp "$1" ".gg/objects/$name"
+    printf '%s' "$name"
+}
+
+printf 'gg-tool cat\n' >card
+printf 'ab' >a
+: >b
+printf 'c' >c
+{
+    printf 'gg-thunk 1\nf %s\n' "$(keep card)"
+    for path in a b c; do
+        printf 'i 1:%s %s\n' "$path" "$(keep "$path")"
+    done
+    printf 'o 3:out\nend\n'
+} >thunk
+thunk=$(keep thunk)
+
+echo "in $folder:"
+for run in first second; do
+    echo "\$ gg force --local $thunk#0"
+    "$here/gg" force --local "$thunk#0"
+done
+value=$("$here/gg" force --local "$thunk#0" | cut -d' ' -f1)
+echo "\$ cat .gg/objects/$value"
+cat ".gg/objects/$value"
+echo
