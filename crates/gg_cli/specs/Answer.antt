@@ -5,7 +5,6 @@ use Rattle.thunk_codec.specs.declared.reference.Ref.{Ref}
 use Rattle.blob_store.specs.Store.{Store, Write}
 use Rattle.need_eval.specs.declared.fault.Refusal.{Refusal}
 use Rattle.need_eval.specs.declared.fault.Refusal.TheVariants as refusals
-use Rattle.need_eval.specs.Eval as eval
 use Rattle.need_eval.specs.Eval.{Stop, Refused, NotBuilt, Clash, Stands, Ended, Got, Stopped, start}
 use Rattle.need_eval.specs.Evaluation.{values_of, by_function}
 use Rattle.gg_cli.specs.declared.status.Status.{Status}

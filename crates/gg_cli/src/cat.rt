@@ -57,6 +57,7 @@ fn cat(alloc: Global, job: &Job) -> Result<Outcome, AllocError>
 }
 
 /// Runs jobs of the card `cat` here; every other function is unknown.
+#[derive(Drop)]
 pub(crate) struct CatRunner;
 
 impl Function for CatRunner {

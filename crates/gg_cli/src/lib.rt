@@ -2,9 +2,14 @@
 #![tactic(auto)]
 
 mod cat;
+mod fault;
+mod forcing;
+mod printing;
+mod saying;
 mod status;
 mod top;
 mod words;
+mod writing;
 
 pub use status::Status;
 pub use top::gg_top;
