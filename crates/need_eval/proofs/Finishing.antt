@@ -1,9 +1,8 @@
 -- The value of a reference, by its pieces, and what was done where one of them stops.
-use Rattle.std.proofs.Common.{◌≡◌, ℕ, List, [], ◌∷◌, Option, Some, None, Result, Ok, Err, refl, sym, ap, subst, ◌∙◌}
+use Rattle.std.proofs.Common.{◌≡◌, ℕ, List, [], ◌∷◌, Result, Ok, Err, refl, sym, ap, subst, ◌∙◌}
 use Rattle.std.specs.Prelude.{IfOk, IfErr, slice_get}
 use Rattle.object_name.specs.Name.{ObjectName}
-use Rattle.thunk_codec.specs.declared.reference.Ref.{Ref}
-use Rattle.thunk_codec.specs.declared.reference.Ref.TheVariants.{Value, Out}
+use Rattle.thunk_codec.specs.declared.reference.Ref.TheVariants.{Value}
 use Rattle.thunk_codec.specs.declared.job.Job.{Job}
 use Rattle.thunk_codec.specs.declared.job.Outcome.{Outcome}
 use Rattle.blob_store.specs.Store.{Store}
@@ -11,9 +10,9 @@ use Rattle.need_eval.specs.declared.fault.EvalFault.{EvalFault}
 use Rattle.need_eval.specs.declared.fault.EvalFault.TheVariants as faults
 use Rattle.need_eval.specs.declared.fault.Refusal.TheVariants.{NoOutput}
 use Rattle.need_eval.specs.declared.evaluating.Values.{Values}
-use Rattle.need_eval.specs.Eval.{State, start, Refused, Ended, Got, Stopped, Eval, go_on, ◌>>=◌, give, need}
-use Rattle.need_eval.specs.Evaluation.{object, held_value, outputs_by, value_of, values_of, by_function, by_list}
-use Rattle.need_eval.specs.PartWay.{state_after, IsPartWay, Stops, Gives, Does, AreAnswers}
+use Rattle.need_eval.specs.Eval.{State, start, Refused, Ended, Got, Eval, go_on, ◌>>=◌, give, need}
+use Rattle.need_eval.specs.Evaluation.{object, held_value, outputs_by, value_of}
+use Rattle.need_eval.specs.PartWay.{state_after, Stops, Gives, Does, AreAnswers}
 use Rattle.need_eval.specs.Evaluating.{EvaluatesAll, EvaluatesSome}
 use Rattle.need_eval.specs.Pieces.{StopsReading, held_alone, wanted_output, finished}
 use Rattle.need_eval.proofs.Keeping.{Keeps, IsKept, keeps-then, keeps-need, keeps-held_value, keeps-value_output, keeps-outputs_by}

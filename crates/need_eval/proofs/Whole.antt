@@ -1,10 +1,9 @@
 -- The evaluation of one reference, by its pieces.
-use Rattle.std.proofs.Common.{◌≡◌, ℕ, List, [], ◌∷◌, ◌++◌, Option, Some, None, Result, Ok, Err, length, refl, sym, ap, subst, ◌∙◌}
+use Rattle.std.proofs.Common.{◌≡◌, ℕ, List, [], ◌∷◌, ◌++◌, Option, Some, Result, Ok, Err, length, refl, sym, ap, subst, ◌∙◌}
 use Rattle.std.specs.Prelude.{slice_get}
-use Rattle.std.specs.List.{AllZip, AllByRecursion}
+use Rattle.std.specs.List.{AllByRecursion}
 use Rattle.object_name.specs.Name.{ObjectName}
-use Rattle.thunk_codec.specs.declared.reference.Ref.{Ref}
-use Rattle.thunk_codec.specs.declared.reference.Ref.TheVariants.{Value, Out}
+use Rattle.thunk_codec.specs.declared.reference.Ref.TheVariants.{Out}
 use Rattle.thunk_codec.specs.declared.job.Job.{Job}
 use Rattle.thunk_codec.specs.declared.job.Outcome.{Outcome}
 use Rattle.thunk_codec.specs.Outcome.{Fits}
@@ -13,13 +12,13 @@ use Rattle.need_eval.specs.declared.fault.EvalFault.{EvalFault}
 use Rattle.need_eval.specs.declared.fault.EvalFault.TheVariants as faults
 use Rattle.need_eval.specs.declared.fault.Refusal.TheVariants.{NoOutput}
 use Rattle.need_eval.specs.declared.evaluating.Values.{Values}
-use Rattle.need_eval.specs.Eval.{State, start, Stop, Refused, Stands, Ended, Got, Stopped, Eval, go_on, ◌>>=◌, give, need, note_asked}
+use Rattle.need_eval.specs.Eval.{State, start, Refused, Stands, Ended, Got, Stopped, Eval, go_on, ◌>>=◌, give, need, note_asked}
 use Rattle.need_eval.specs.Evaluation.{outputs_by, value_output, prepared, ask, output_of, value_of, values_of, by_function, by_list}
-use Rattle.need_eval.specs.PartWay.{state_after, IsPartWay, Stops, Gives, Does, AreAnswers}
+use Rattle.need_eval.specs.PartWay.{state_after, Stops, Does, AreAnswers}
 use Rattle.need_eval.specs.Evaluating.{EvaluatesAll, EvaluatesSome}
 use Rattle.need_eval.specs.Pieces.{StopsReading, RunCause, stepped, wanted_output, finished}
-use Rattle.need_eval.proofs.Keeping.{Keeps, IsKept, keeps-go_on, keeps-then, keeps-need, keeps-value_output, keeps-prepared, keeps-outputs_by}
-use Rattle.need_eval.proofs.Growth.{Grows, Grows-same, Grows-stay, values_of-grows}
+use Rattle.need_eval.proofs.Keeping.{IsKept, keeps-go_on, keeps-then, keeps-need, keeps-value_output, keeps-prepared, keeps-outputs_by}
+use Rattle.need_eval.proofs.Growth.{Grows, Grows-stay}
 use Rattle.need_eval.proofs.ReadOnly.{StopsReading-go_on}
 use Rattle.need_eval.proofs.StoreOne.{part_way-none, Stops-later}
 

@@ -1,4 +1,4 @@
-use Rattle.std.proofs.Common.{◌≡◌, refl, sym, ap, ◌∙◌, [], ◌∷◌, arith}
+use Rattle.std.proofs.Common.{◌≡◌, refl, [], ◌∷◌, arith}
 use Rattle.thunk_codec.specs.declared.reference.Ref.TheVariants.{Value}
 use Rattle.need_eval.specs.Eval.{start}
 use Rattle.need_eval.proofs.Finishing.{held_all, held_some}
