@@ -1,12 +1,13 @@
 -- What is under a name in a list of pairs that is seen as a finite map, and what a put makes of it.
-use Rattle.std.proofs.Common.{◌≡◌, ℕ, List, [], ◌∷◌, ◌++◌, get_or, Option, Some, None, refl, sym, ap, ◌∙◌}
+use Rattle.std.proofs.Common.{◌≡◌, ℕ, List, [], ◌∷◌, ◌++◌, get_or, length, Option, Some, None, refl, sym, ap, subst, ◌∙◌}
 use Rattle.std.specs.Prelude.{position, slice_set}
 use Rattle.std.specs.FinMap as map
+use Rattle.std.specs.FinMap.{len-empty}
 use Rattle.std.specs.Ordering.{eq_by_cmp}
 use Rattle.object_name.specs.Name.{ObjectName, name_cmp}
 use Rattle.object_name.proofs.NameOrder.{name_cmp_total, name_cmp-IsAntisymmetric}
 use Rattle.blob_store.specs.Memory.{ByName}
-use Rattle.blob_store.proofs.Places.{get-place, get-no_place, insert-place, insert-push}
+use Rattle.blob_store.proofs.Places.{get-place, get-no_place, insert-place, insert-push, length-place, length-push}
 
 abbrev Pairs : Type 0
 Pairs = List (ObjectName × List ℕ)
@@ -38,3 +39,25 @@ pub put_none : (kept : ByName) (name : ObjectName) (bytes : List ℕ) (pairs see
 put_none kept name bytes pairs seen pushed view same place is =
     let placed = sym (place ∙ ap (position (λ (p : ObjectName × List ℕ). eq_by_cmp name_cmp name p.0)) same) in
     ap (λ (es : Pairs). map.from_entries es) is ∙ insert-push name_cmp_total name_cmp-IsAntisymmetric name bytes pairs placed ∙ ap (λ (m : ByName). map.insert m name bytes) view
+
+-- as many pairs as names
+abbrev IsWhole : Pairs → Type 0
+IsWhole pairs = length pairs ≡ map.len (map.from_entries {R = name_cmp} pairs)
+
+-- so it stays where a pair is written at its name's place
+pub IsWhole-found : (name : ObjectName) (bytes : List ℕ) (pairs seen : Pairs) (i : ℕ) (pair : ObjectName × List ℕ) → seen ≡ pairs
+    → Some i ≡ position (λ (p : ObjectName × List ℕ). eq_by_cmp name_cmp name p.0) seen → IsWhole pairs → IsWhole (slice_set pairs i (name, bytes))
+IsWhole-found name bytes pairs seen i pair same place whole =
+    let placed = sym (place ∙ ap (position (λ (p : ObjectName × List ℕ). eq_by_cmp name_cmp name p.0)) same) in
+    length-place name_cmp_total name_cmp-IsAntisymmetric name bytes pairs i pair placed whole
+
+-- and where one is pushed whose name has no place
+pub IsWhole-none : (name : ObjectName) (bytes : List ℕ) (pairs seen pushed : Pairs) → seen ≡ pairs
+    → None ≡ position (λ (p : ObjectName × List ℕ). eq_by_cmp name_cmp name p.0) seen → pushed ≡ pairs ++ (name, bytes) ∷ [] → IsWhole pairs → IsWhole pushed
+IsWhole-none name bytes pairs seen pushed same place is whole =
+    let placed = sym (place ∙ ap (position (λ (p : ObjectName × List ℕ). eq_by_cmp name_cmp name p.0)) same) in
+    subst IsWhole (sym is) (length-push name_cmp_total name_cmp-IsAntisymmetric name bytes pairs placed whole)
+
+-- and it holds of none
+pub IsWhole-empty : (pairs : Pairs) → pairs ≡ [] → IsWhole pairs
+IsWhole-empty pairs is = subst IsWhole (sym is) (sym (len-empty name_cmp (List ℕ)))

@@ -1,9 +1,11 @@
 -- A finite map as a list of pairs in any order, and the place of a key in it.
 use Rattle.std.proofs.Common.{◌≡◌, ℕ, zero, suc, ◌+◌, ◌<◌, ◌≤◌, Bool, true, false, cond, List, [], ◌∷◌, ◌++◌, length, get_or, Option, Some, None, refl, sym, ap, subst, ◌∙◌, arith}
-use Rattle.std.specs.Prelude.{position, slice_set, fold}
+use Rattle.std.specs.Prelude.{position, slice_set, is_some}
+use Rattle.std.proofs.lemmas.List.{length-append}
+use Rattle.std.proofs.Math.ListN.{length-set}
 use Rattle.std.specs.Cmp.{IsTotalOrder}
 use Rattle.std.specs.FinMap as map
-use Rattle.std.specs.FinMap.{IsAntisymmetric, find, get-insert, get-from_entries, same_map, from_entries_push}
+use Rattle.std.specs.FinMap.{IsAntisymmetric, find, get-insert, get-from_entries, len-insert, same_map, from_entries_push}
 use Rattle.std.specs.Ordering.{eq_by_cmp}
 use Rattle.std.specs.declared.cmp.Ordering.{Ordering}
 use Rattle.std.proofs.lemmas.List.Quantifiers.{position-Some}
@@ -92,3 +94,21 @@ module _ {K X : Type 0} {R : K → K → Ordering} (o : IsTotalOrder R) (same : 
   pub insert-push : (k : K) (v : X) (es : List (K × X)) → position (λ (pair : K × X). eq_by_cmp R k pair.0) es ≡ None
       → map.from_entries {R = R} (es ++ (k, v) ∷ []) ≡ map.insert (map.from_entries es) k v
   insert-push k v es e = from_entries_push o same es k v (find-no_place R k es e)
+
+  -- as many pairs as keys, after a pair is written at its key's place
+  pub length-place : (k : K) (v : X) (es : List (K × X)) (i : ℕ) (d : K × X) → position (λ (pair : K × X). eq_by_cmp R k pair.0) es ≡ Some i
+      → length es ≡ map.len (map.from_entries {R = R} es) → length (slice_set es i (k, v)) ≡ map.len (map.from_entries {R = R} (slice_set es i (k, v)))
+  length-place k v es i d e whole =
+      let there : map.contains_key (map.from_entries {R = R} es) k ≡ true = ap is_some (get-place k es i d e) in
+      length-set es i (k, v) ∙ whole
+      ∙ sym (ap map.len (insert-place k v es i d e) ∙ len-insert o (map.from_entries es) k v
+      ∙ ap (λ (b : Bool). cond b (map.len (map.from_entries {R = R} es)) (map.len (map.from_entries {R = R} es) + 1)) there)
+
+  -- and after a pair is pushed whose key has no place
+  pub length-push : (k : K) (v : X) (es : List (K × X)) → position (λ (pair : K × X). eq_by_cmp R k pair.0) es ≡ None
+      → length es ≡ map.len (map.from_entries {R = R} es) → length (es ++ (k, v) ∷ []) ≡ map.len (map.from_entries {R = R} (es ++ (k, v) ∷ []))
+  length-push k v es e whole =
+      let none : map.contains_key (map.from_entries {R = R} es) k ≡ false = ap is_some (get-no_place k es e) in
+      length-append es ((k, v) ∷ []) ∙ ap (λ (n : ℕ). n + 1) whole
+      ∙ sym (ap map.len (insert-push k v es e) ∙ len-insert o (map.from_entries es) k v
+      ∙ ap (λ (b : Bool). cond b (map.len (map.from_entries {R = R} es)) (map.len (map.from_entries {R = R} es) + 1)) none)

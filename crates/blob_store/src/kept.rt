@@ -1,6 +1,6 @@
 //! Bytes by name, in memory.
 
-ghost use Rattle.std.specs.Prelude.{◌≡◌, IfOk, OnOk, OnErr, position};
+ghost use Rattle.std.specs.Prelude.{◌≡◌, IfOk, OnOk, OnErr, length, position};
 ghost use Rattle.std.specs.FinMap as map;
 ghost use Rattle.std.specs.Ordering.{eq_by_cmp};
 ghost use Rattle.object_name.specs.Name.{name_cmp};
@@ -18,6 +18,8 @@ pub struct Kept {
 
 impl Model for Kept {
     ghost use Rattle.std.specs.FinMap as map;
+    ghost use Rattle.std.specs.Prelude.{◌≡◌, length};
+    ghost use Rattle.object_name.specs.Name.{name_cmp};
     ghost use Rattle.blob_store.specs.Memory.{ByName, by_name_code};
 
     ghost Value = { ByName };
@@ -25,6 +27,8 @@ impl Model for Kept {
     ghost coded = { by_name_code };
 
     ghost view = { λ kept. map.from_entries kept.pairs.items };
+
+    ghost invariant = { λ kept. length kept.pairs.items ≡ map.len (map.from_entries {R = name_cmp} kept.pairs.items) };
 }
 
 impl Kept {
@@ -69,9 +73,10 @@ impl Kept {
         Ok(())
     }
 
-    /// The names with their bytes.
+    /// The names, each once, with their bytes.
     pub fn into_pairs(self) -> Many<(Name, Bytes)>
-        ensures { map.from_entries result ≡ self }
+        ensures map { map.from_entries result ≡ self }
+        ensures once { length result ≡ map.len self }
     {
         Many(self.pairs)
     }

@@ -1,6 +1,6 @@
 //! A keeper in memory.
 
-ghost use Rattle.std.specs.Prelude.{◌≡◌, ◌↔◌, ◌++◌, ◌∷◌, [], IsTrue, IsErrOf, IfOk, OnOk, OnErr};
+ghost use Rattle.std.specs.Prelude.{◌≡◌, ◌↔◌, ◌++◌, ◌∷◌, [], length, IsTrue, IsErrOf, IfOk, OnOk, OnErr};
 ghost use Rattle.std.specs.FinMap as map;
 ghost use Rattle.object_name.specs.Causes.{HasCause};
 ghost use Rattle.object_name.specs.Calls.{fails_next};
@@ -69,10 +69,12 @@ impl MemKeeper {
         self.puts.as_slice()
     }
 
-    /// The objects and the notes, with their names.
+    /// The objects and the notes with their names, each name once.
     pub fn into_content(self) -> (Many<(Name, Bytes)>, Many<(Name, Bytes)>)
         ensures objects { map.from_entries result.0 ≡ self.objects }
         ensures notes { map.from_entries result.1 ≡ self.notes }
+        ensures objects_once { length result.0 ≡ map.len self.objects }
+        ensures notes_once { length result.1 ≡ map.len self.notes }
     {
         let MemKeeper { objects, notes, .. } = self;
         (objects.into_pairs(), notes.into_pairs())

@@ -1,4 +1,4 @@
-use Rattle.blob_store.proofs.KeptLemmas.{put_found, put_none}
+use Rattle.blob_store.proofs.KeptLemmas.{put_found, put_none, IsWhole-found, IsWhole-none}
 use Rattle.blob_store.proofs.kept.Kept.put.Goals as goal
 
 pub returns-in-Some-clause-ok : goal.returns-in-Some-clause-ok
@@ -8,3 +8,12 @@ returns-in-Some-clause-ok c =
 pub returns-in_ok-push-in-None-clause-ok : goal.returns-in_ok-push-in-None-clause-ok
 returns-in_ok-push-in-None-clause-ok c =
     put_none c.args.self.now c.args.name c.args.bytes c.self.inside.pairs.items c.as_slice.result.now c.push.new.self.items c.self.view_is c.as_slice.ensures.value c.in-None.ensures c.in_ok-push-in-None.ensures.items
+
+pub invariant_of-self : goal.invariant_of-self
+invariant_of-self c =
+    IsWhole-found c.args.name c.args.bytes c.self.inside.pairs.items c.as_slice.result.now c.in-Some.i c.index_mut.result.now c.as_slice.ensures.value c.in-Some.ensures c.self.invariant
+
+pub invariant_of-self-in-Continue-1 : goal.invariant_of-self-in-Continue-1
+invariant_of-self-in-Continue-1 c =
+    IsWhole-none c.args.name c.args.bytes c.self.inside.pairs.items c.as_slice.result.now c.push.new.self.items c.as_slice.ensures.value c.in-None.ensures c.in_ok-push-in-None.ensures.items
+    c.self.invariant
