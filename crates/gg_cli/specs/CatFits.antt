@@ -23,5 +23,6 @@ cat_outcome_fits job = of_choice (Fits job) ((length job.args == 0) && (length j
     (lit≤ tt, lit≤ tt))
     (lit≤ tt, lit≤ tt)
 
+-- each job fits the outcome of its function
 pub tool_outcome_fits : (job : Job) → Fits job (tool_outcome job)
 tool_outcome_fits job = of_choice (Fits job) (bytes_eq job.function cat_card) _ _ (λ _. cat_outcome_fits job) (lit≤ tt, lit≤ tt)

@@ -17,6 +17,7 @@ pub record EndsAt (a : Answer) (m : Made) (fault : TopFault) : Type 0 where
   pub comes : Comes a m (fault_status fault)
   pub line : status_line a (fault_status fault) ≡ fault_line (fault_text fault)
 
+-- done, or at a fault
 abbrev pub Ends : {T : Type 0} → Answer → Made → Result T TopFault → Type 0
 Ends a m (Ok v) = Comes a m Done
 Ends a m (Err fault) = EndsAt a m fault

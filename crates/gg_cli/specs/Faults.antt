@@ -10,6 +10,7 @@ use Rattle.gg_cli.specs.declared.status.Status.TheVariants as statuses
 use Rattle.gg_cli.specs.Texts.{refusal_text}
 use Rattle.gg_cli.specs.Answer.{refusal_status}
 
+-- the status that a fault ends with
 abbrev pub fault_status : TopFault → Status
 fault_status Usage = statuses.Usage
 fault_status (Refused refusal) = refusal_status refusal
@@ -19,6 +20,7 @@ fault_status StoreFailed = statuses.StoreFault
 fault_status OutputFailed = statuses.ByteFault
 fault_status Memory = statuses.Memory
 
+-- what the line of a fault says
 abbrev pub fault_text : TopFault → List ℕ
 fault_text Usage = codes "usage"
 fault_text (Refused refusal) = refusal_text refusal

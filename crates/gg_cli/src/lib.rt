@@ -7,6 +7,8 @@ mod forcing;
 mod printing;
 mod saying;
 mod status;
+#[cfg(test)]
+mod tests;
 mod top;
 mod words;
 mod writing;
