@@ -1,1 +1,4 @@
-
+pub mod WritingLemmas
+pub mod ForcingLemmas
+pub mod PrintingLemmas
+pub mod TopLemmas

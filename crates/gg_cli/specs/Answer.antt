@@ -5,7 +5,6 @@ use Rattle.thunk_codec.specs.declared.reference.Ref.{Ref}
 use Rattle.blob_store.specs.Store.{Store, Write}
 use Rattle.need_eval.specs.declared.fault.Refusal.{Refusal}
 use Rattle.need_eval.specs.declared.fault.Refusal.TheVariants as refusals
-use Rattle.need_eval.specs.Eval as eval
 use Rattle.need_eval.specs.Eval.{Stop, Refused, NotBuilt, Clash, Stands, Ended, Got, Stopped, start}
 use Rattle.need_eval.specs.Evaluation.{values_of, by_function}
 use Rattle.gg_cli.specs.declared.status.Status.{Status}
@@ -16,6 +15,7 @@ use Rattle.gg_cli.specs.Words.{command_of}
 use Rattle.gg_cli.specs.Cat.{tool_outcome}
 use Rattle.gg_cli.specs.Texts.{fault_line, usage_line, stop_text, value_lines}
 
+-- what a command line is to do: the writes in order, the status, what is printed, and the line of the fault, if there is one
 pub record Answer : Type 0 where
   pub writes : List Write
   pub status : Status
@@ -26,6 +26,7 @@ pub record Answer : Type 0 where
 abbrev pub default_budget : ℕ
 default_budget = 65536
 
+-- the status of a refusal
 abbrev pub refusal_status : Refusal → Status
 refusal_status (refusals.Missing name) = statuses.Missing
 refusal_status (refusals.BadThunk name) = statuses.BadThunk
@@ -33,7 +34,7 @@ refusal_status (refusals.NoOutput name index) = statuses.NoOutput
 refusal_status (refusals.Spent name budget) = statuses.Spent
 refusal_status (refusals.FunctionFailed name status) = statuses.FunctionFailed
 
--- with one function an evaluation never stands at a job
+-- the status of a stop; with one function an evaluation never stands at a job
 abbrev pub stop_status : Stop → Status
 stop_status (Refused refusal) = refusal_status refusal
 stop_status (NotBuilt name) = statuses.NotBuilt
@@ -51,5 +52,6 @@ answer_of_command None store = record { writes = []; status = statuses.Usage; te
 answer_of_command (Some (Force wanted)) store =
     forced (wanted ∷ []) (values_of (by_function tool_outcome) default_budget (wanted ∷ []) (start store))
 
+-- the answer of some words
 unfoldable pub answer_of : List (List ℕ) → Store → Answer
 answer_of words store = answer_of_command (command_of words) store

@@ -3,6 +3,7 @@ use Rattle.std.specs.Prelude.{ℕ}
 use Rattle.gg_cli.specs.declared.status.Status.{Status}
 use Rattle.gg_cli.specs.declared.status.Status.TheVariants.{Done, FunctionFailed, Usage, Missing, BadThunk, NoOutput, Spent, Clash, StoreFault, ByteFault, Memory, NotBuilt}
 
+-- 0 where all is done, and a number of its own for each fault
 abbrev pub code_of : Status → ℕ
 code_of Done = 0
 code_of FunctionFailed = 1

@@ -6,3 +6,6 @@ pub mod Answer
 pub mod Comes
 pub mod Codes
 pub mod Commands
+pub mod Faults
+pub mod Writing
+pub mod Ending

@@ -11,15 +11,19 @@ use Rattle.need_eval.specs.Eval.{Stop, Refused, NotBuilt, Clash, Stands}
 abbrev pub fault_line : List ℕ → List ℕ
 fault_line text = codes "gg: " ++ (text ++ 10 ∷ [])
 
+-- the words are no command line
 abbrev pub usage_line : List ℕ
 usage_line = fault_line (codes "usage")
 
+-- the keeper failed
 abbrev pub store_fault_line : List ℕ
 store_fault_line = fault_line (codes "store fault")
 
+-- the output failed
 abbrev pub output_fault_line : List ℕ
 output_fault_line = fault_line (codes "output fault")
 
+-- memory was refused
 abbrev pub memory_line : List ℕ
 memory_line = fault_line (codes "want of memory")
 

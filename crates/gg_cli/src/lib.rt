@@ -2,9 +2,16 @@
 #![tactic(auto)]
 
 mod cat;
+mod fault;
+mod forcing;
+mod printing;
+mod saying;
 mod status;
+#[cfg(test)]
+mod tests;
 mod top;
 mod words;
+mod writing;
 
 pub use status::Status;
 pub use top::gg_top;

@@ -1,14 +1,58 @@
 //! One command line, from its words to what is written.
 
-ghost use Rattle.std.specs.Prelude.{◌≡◌, ◌⊎◌, None, map, string_bytes};
+ghost use Rattle.std.specs.Prelude.{◌≡◌, ◌≢◌, ◌⊎◌, Some, None, Err, map, string_bytes};
 ghost use Rattle.gg_cli.specs.Words.{command_of};
-ghost use Rattle.gg_cli.specs.Answer.{answer_of};
+ghost use Rattle.gg_cli.specs.Commands.{IsCommand};
+ghost use Rattle.gg_cli.specs.Answer.{answer_of, answer_of_command};
 ghost use Rattle.gg_cli.specs.Comes.{Comes, Says, TopCause};
+ghost use Rattle.gg_cli.specs.Ending.{Ends, EndCause};
 
+use crate::fault::TopFault;
+use crate::forcing::force;
+use crate::saying::say;
 use crate::status::Status;
+use crate::words::{Command, WordFault, read_words};
 use blob_store::Keeper;
 use object_name::Sink;
 use std::alloc::Global;
+
+/// Does a command.
+fn do_command<K: Keeper, O: Sink>(
+    alloc: Global,
+    command: &Command,
+    keeper: &mut K,
+    out: &mut O,
+) -> Result<(), TopFault>
+    requires { IsCommand command.now }
+    ensures ends { K.tells → Ends (answer_of_command (Some command.now) (K.store keeper.old))
+        (record { before = K.store keeper.old; after = K.store keeper.new; out_before = O.written out.old; out_after = O.written out.new }) result }
+    ensures cause { EndCause (K.faults keeper.old) (K.faults keeper.new) (O.faults out.old) (O.faults out.new) result }
+    ensures no_usage { result ≢ Err TopFault.Usage }
+{
+    match command {
+        Command::Force { wanted } => force(alloc, keeper, out, wanted),
+    }
+}
+
+/// Does one command line, but for the line of its fault.
+fn obey<K: Keeper, O: Sink>(
+    alloc: Global,
+    words: &[String],
+    keeper: &mut K,
+    out: &mut O,
+) -> Result<(), TopFault>
+    ensures ends { K.tells → Ends (answer_of (map string_bytes words.now) (K.store keeper.old))
+        (record { before = K.store keeper.old; after = K.store keeper.new; out_before = O.written out.old; out_after = O.written out.new }) result }
+    ensures cause { EndCause (K.faults keeper.old) (K.faults keeper.new) (O.faults out.old) (O.faults out.new) result }
+    ensures usage { result ≡ Err TopFault.Usage → command_of (map string_bytes words.now) ≡ None }
+    ensures no_command { command_of (map string_bytes words.now) ≡ None → result ≡ Err TopFault.Usage }
+{
+    match read_words(alloc, words) {
+        Ok(command) => do_command(alloc, &command, keeper, out),
+        Err(WordFault::Usage) => Err(TopFault::Usage),
+        Err(WordFault::Memory) => Err(TopFault::Memory),
+    }
+}
 
 /// Does one command line, without links, and waits for nobody. The text goes to `out`; a fault's one line goes to `err`, after
 /// all else.
@@ -30,10 +74,8 @@ pub fn gg_top<K: Keeper, O: Sink, E: Sink>(
     ensures usage { result ≡ Status.Usage → command_of (map string_bytes words.now) ≡ None }
     ensures no_command { command_of (map string_bytes words.now) ≡ None → (result ≡ Status.Usage) ⊎ (result ≡ Status.Memory) }
 {
-    let _ = alloc;
-    let _ = words;
-    let _ = keeper;
-    let _ = out;
-    let _ = err;
-    Status::Memory
+    match obey(alloc, words, keeper, out) {
+        Ok(()) => Status::Done,
+        Err(fault) => say(alloc, err, &fault),
+    }
 }

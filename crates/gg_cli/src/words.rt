@@ -61,7 +61,11 @@ pub fn read_words(_alloc: Global, words: &[String]) -> Result<Command, WordFault
     if words.len() != 3 {
         return Err(WordFault::Usage);
     }
-    let command = read_force(words[0].as_bytes(), words[1].as_bytes(), words[2].as_bytes());
+    let command = read_force(
+        words[0].as_bytes(),
+        words[1].as_bytes(),
+        words[2].as_bytes(),
+    );
     match command {
         Some(command) => Ok(command),
         None => Err(WordFault::Usage),

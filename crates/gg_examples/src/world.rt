@@ -30,7 +30,8 @@ impl Objects {
 
     /// Adds bytes under a name, whether they have it or not.
     pub fn add_under(&mut self, name: Name, bytes: &[u8]) -> Result<(), Fail> {
-        self.pairs.push((name, Bytes::from_slice(self.alloc, bytes)?))?;
+        self.pairs
+            .push((name, Bytes::from_slice(self.alloc, bytes)?))?;
         Ok(())
     }
 

@@ -1,5 +1,5 @@
 -- An evaluation that goes through a list, element by element.
-use Rattle.std.proofs.Common.{◌≡◌, ℕ, List, [], ◌∷◌, ◌++◌, refl, sym, ap, ◌∙◌, append_assoc, append-nil}
+use Rattle.std.proofs.Common.{◌≡◌, List, [], ◌∷◌, ◌++◌, refl, sym, ap, ◌∙◌, append_assoc, append-nil}
 use Rattle.need_eval.specs.Eval.{State, Ended, Got, Stopped, Eval, go_on, ◌>>=◌, give, each}
 
 -- some are done, and what is left of the whole is to go through the others from this state

@@ -1,5 +1,5 @@
 -- Going through the inputs of a thunk.
-use Rattle.std.proofs.Common.{◌≡◌, ◌≤◌, ◌<◌, ◌+◌, ℕ, suc, List, [], ◌∷◌, ◌++◌, length, map, take, drop, get_or, refl, sym, ap, subst, ◌∙◌, arith, add-one}
+use Rattle.std.proofs.Common.{◌≡◌, ◌≤◌, ◌<◌, ◌+◌, ℕ, suc, List, [], ◌∷◌, ◌++◌, length, map, take, drop, get_or, sym, ap, subst, ◌∙◌, add-one}
 use Rattle.std.proofs.Math.Seq.{drop-cons, drop-length, take-length}
 use Rattle.std.proofs.lemmas.List.{map_more, map_push}
 use Rattle.object_name.specs.Name.{ObjectName}
@@ -7,7 +7,7 @@ use Rattle.thunk_codec.specs.declared.reference.Ref.{Ref}
 use Rattle.thunk_codec.specs.Job.{ref_name}
 use Rattle.blob_store.specs.Store.{Store}
 use Rattle.need_eval.specs.declared.fault.EvalFault.{EvalFault}
-use Rattle.need_eval.specs.Eval.{State, Ended, Got, Stopped, Eval, go_on, ◌>>=◌, give, each}
+use Rattle.need_eval.specs.Eval.{State, Ended, Got, ◌>>=◌, give, each}
 use Rattle.need_eval.specs.Evaluation.{value_in, bytes_of}
 use Rattle.need_eval.specs.Pieces.{StopsReading, refs_of, names_of, with_bytes, lengths_of, sizes_of}
 use Rattle.need_eval.proofs.Going.{IsLeft, IsLeft-start, IsLeft-more, IsLeft-end}

@@ -1,6 +1,6 @@
 -- What evaluations keep: a relation of two states that holds of a state and itself, and over two runs where it holds over each,
 -- holds over a whole evaluation where it holds over what the evaluation does.
-use Rattle.std.proofs.Common.{◌≡◌, ℕ, List, [], ◌∷◌, ◌++◌, Bool, true, false, Option, Some, None, length, map}
+use Rattle.std.proofs.Common.{ℕ, List, [], ◌∷◌, Bool, true, false, Option, Some, None, length, map}
 use Rattle.std.specs.Prelude.{nat_lt, nat_le, slice_get}
 use Rattle.object_name.specs.declared.kind.Kind.{Kind}
 use Rattle.object_name.specs.declared.kind.Kind.TheVariants as kinds
@@ -13,9 +13,9 @@ use Rattle.thunk_codec.specs.declared.job.Outcome.TheVariants.{Done, Failed}
 use Rattle.thunk_codec.specs.Thunk.{Parts}
 use Rattle.thunk_codec.specs.Reading.{thunk_of}
 use Rattle.thunk_codec.specs.Job.{job_size, max_job}
-use Rattle.blob_store.specs.Store.{Write, after_write, held, other_held, storing}
-use Rattle.need_eval.specs.declared.fault.Refusal.TheVariants.{Missing, BadThunk, NoOutput, Spent, FunctionFailed}
-use Rattle.need_eval.specs.Eval.{State, Stop, Refused, NotBuilt, Clash, Stands, Ended, Got, Stopped, Eval, ◌>>=◌, ◌>>◌, go_on, give, stop, current, check, need, each, step, make_write, note_asked}
+use Rattle.blob_store.specs.Store.{Write, held, other_held, storing}
+use Rattle.need_eval.specs.declared.fault.Refusal.TheVariants.{Missing, BadThunk, NoOutput, Spent}
+use Rattle.need_eval.specs.Eval.{State, Stop, Refused, NotBuilt, Stands, Ended, Got, Stopped, Eval, ◌>>=◌, go_on, give, check, need, each, step, make_write, note_asked}
 use Rattle.need_eval.specs.Evaluation.{no_clash, store_one, object, thunk_at, held_value, value_in, job_of, resolved, outputs_by, value_output, count, entered, prepared, ask, output_of, value_of, values_of}
 use Rattle.need_eval.specs.PartWay.{state_after}
 
@@ -55,7 +55,7 @@ module _ (R : State → State → Type 0) (kept : IsKept R) where
   keeps-object : (name : ObjectName) → Keeps R (object name)
   keeps-object name s = keeps-need (held s.store.objects name) (Refused (Missing name)) s
 
-  keeps-held_value : (name : ObjectName) → Keeps R (held_value name)
+  pub keeps-held_value : (name : ObjectName) → Keeps R (held_value name)
   keeps-held_value name = keeps-then (object name) (λ _. give name) (keeps-object name) (λ _ s. kept.same s)
 
   keeps-thunk_at : (name : ObjectName) → Keeps R (thunk_at name)

@@ -7,3 +7,5 @@ pub mod Resolving
 pub mod Preparing
 pub mod StoreOne
 pub mod Outputs
+pub mod Whole
+pub mod Finishing

@@ -1,15 +1,15 @@
 -- What pieces that only read do, one after another.
-use Rattle.std.proofs.Common.{◌≡◌, ℕ, List, Result, Ok, Err, refl, sym, ap, subst, ◌∙◌}
+use Rattle.std.proofs.Common.{◌≡◌, ℕ, List, Result, Ok, Err, sym, ap, subst}
 use Rattle.object_name.specs.Name.{ObjectName}
 use Rattle.thunk_codec.specs.declared.reference.Ref.{Ref}
-use Rattle.thunk_codec.specs.declared.reference.Ref.TheVariants.{Value, Out}
+use Rattle.thunk_codec.specs.declared.reference.Ref.TheVariants.{Value}
 use Rattle.thunk_codec.specs.Job.{ref_name}
 use Rattle.thunk_codec.specs.Reading.{thunk_of}
 use Rattle.blob_store.specs.Store.{Store}
 use Rattle.need_eval.specs.declared.fault.Refusal.TheVariants.{BadThunk}
 use Rattle.need_eval.specs.declared.fault.EvalFault.{EvalFault}
 use Rattle.need_eval.specs.declared.fault.EvalFault.TheVariants as faults
-use Rattle.need_eval.specs.Eval.{State, Stop, Refused, Ended, Got, Stopped, Eval, go_on, need}
+use Rattle.need_eval.specs.Eval.{State, Stop, Refused, Ended, Got, Eval, go_on, need}
 use Rattle.need_eval.specs.Evaluation.{object, thunk_at, value_in}
 use Rattle.need_eval.specs.PartWay.{StopsWith}
 use Rattle.need_eval.specs.Pieces.{StopsReading, Reads}

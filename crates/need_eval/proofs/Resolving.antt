@@ -1,5 +1,5 @@
 -- The job of a thunk by what its function and inputs give.
-use Rattle.std.proofs.Common.{◌≡◌, ◌≤◌, ◌<◌, ◌+◌, ℕ, Bool, true, false, List, [], ◌∷◌, length, map, Result, Ok, Err, refl, sym, ap, subst, ◌∙◌, arith}
+use Rattle.std.proofs.Common.{◌≡◌, ◌≤◌, ◌<◌, ℕ, true, false, List, [], ◌∷◌, length, refl, sym, ap, subst, ◌∙◌}
 use Rattle.std.specs.Prelude.{nat_le}
 use Rattle.std.proofs.lemmas.Bool.{le-leb, lt-leb}
 use Rattle.object_name.specs.Name.{ObjectName}
@@ -10,7 +10,7 @@ use Rattle.thunk_codec.specs.Job.{ref_name, job_size, max_job, resolved_size, si
 use Rattle.thunk_codec.proofs.Lengths.{job_size_by_lengths}
 use Rattle.blob_store.specs.Store.{Store}
 use Rattle.need_eval.specs.declared.fault.EvalFault.{EvalFault}
-use Rattle.need_eval.specs.Eval.{State, NotBuilt, Ended, Got, Stopped, Eval, go_on, ◌>>=◌, ◌>>◌, give, current, check, each}
+use Rattle.need_eval.specs.Eval.{State, NotBuilt, Ended, Got, Eval, go_on, ◌>>=◌, ◌>>◌, give, current, check, each}
 use Rattle.need_eval.specs.Evaluation.{value_in, bytes_of, inputs_with, job_of, resolved}
 use Rattle.need_eval.specs.PartWay.{StopsWith}
 use Rattle.need_eval.specs.Pieces.{StopsReading, refs_of, names_of, with_bytes, lengths_of, sizes_of}

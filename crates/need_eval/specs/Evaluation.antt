@@ -15,9 +15,8 @@ use Rattle.thunk_codec.specs.Thunk.{Parts}
 use Rattle.thunk_codec.specs.Reading.{thunk_of}
 use Rattle.thunk_codec.specs.Job.{job_size, max_job}
 use Rattle.blob_store.specs.Store.{Store, held, other_held, storing}
-use Rattle.need_eval.specs.declared.fault.Refusal.{Refusal}
 use Rattle.need_eval.specs.declared.fault.Refusal.TheVariants.{Missing, BadThunk, NoOutput, Spent, FunctionFailed}
-use Rattle.need_eval.specs.Eval.{State, Stop, Refused, NotBuilt, Clash, Stands, Eval, ◌>>=◌, ◌>>◌, give, stop, current, check, need, each, step, make_write, note_asked}
+use Rattle.need_eval.specs.Eval.{Refused, NotBuilt, Clash, Stands, Eval, ◌>>=◌, ◌>>◌, give, stop, current, check, need, each, step, make_write, note_asked}
 
 -- the bytes of an object
 abbrev pub bytes_of : Store → ObjectName → List ℕ

@@ -12,7 +12,7 @@ use Rattle.need_eval.specs.declared.fault.EvalFault.{EvalFault}
 use Rattle.need_eval.specs.declared.fault.EvalFault.TheVariants as faults
 use Rattle.need_eval.specs.declared.fault.Refusal.TheVariants.{NoOutput}
 use Rattle.need_eval.specs.Eval.{State, Refused, NotBuilt, Ended, Got, Eval, ◌>>=◌, give, need}
-use Rattle.need_eval.specs.Evaluation.{bytes_of, outputs_by, value_output}
+use Rattle.need_eval.specs.Evaluation.{bytes_of, held_value, outputs_by, value_output}
 use Rattle.need_eval.specs.PartWay.{StopsWith, Stops, Gives, HaveOneName}
 
 -- an evaluation that writes nothing stops so, or the keeper failed or memory was refused on the way
@@ -43,7 +43,16 @@ KeeperCause retries before after faults.StoreFailed = RoseBy retries before afte
 KeeperCause retries before after faults.RunFailed = ⊥
 KeeperCause retries before after faults.Memory = Unit {0}
 
--- the same of a call that may run a job
+-- what a fault of a run shows
+abbrev pub RunCause : ℕ → ℕ → EvalFault → Type 0
+RunCause before after (faults.Refused refusal) = ⊥
+RunCause before after (faults.NotBuilt name) = ⊥
+RunCause before after (faults.Clash name found fresh) = ⊥
+RunCause before after faults.StoreFailed = ⊥
+RunCause before after faults.RunFailed = Rose before after
+RunCause before after faults.Memory = Unit {0}
+
+-- what a fault of a call shows that may run a job
 abbrev pub AnyCause : ℕ → ℕ → ℕ → ℕ → ℕ → EvalFault → Type 0
 AnyCause retries kept_before kept_after run_before run_after (faults.Refused refusal) = Unit {0}
 AnyCause retries kept_before kept_after run_before run_after (faults.NotBuilt name) = Unit {0}
@@ -80,6 +89,12 @@ lengths_of read = map (λ input. (input.0, length input.1)) read
 
 abbrev pub sizes_of : List (List ℕ × Ref) → List (List ℕ × ℕ)
 sizes_of inputs = map (λ input. (input.0, (ref_name input.1).size)) inputs
+
+-- a wanted value, alone
+abbrev pub held_alone : ObjectName → Eval (List ObjectName)
+held_alone name = do
+  value ← held_value name
+  give (value ∷ [])
 
 -- a wanted one of some outputs, where it is a value
 abbrev pub wanted_output : ObjectName → ℕ → List ObjectName → Eval ObjectName

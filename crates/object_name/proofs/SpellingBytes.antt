@@ -29,7 +29,7 @@ encode_symbols-passes p t (a ∷ b ∷ []) none h =
     and_from _ _ (read_passes p t (a / 4) none h) (and_from _ _ (read_passes p t (a % 4 * 16 + b / 16) none h) (and_from _ _ (read_passes p t (b % 16 * 4) none h) refl))
 encode_symbols-passes p t (a ∷ b ∷ c ∷ rest) none h =
     and_from _ _ (read_passes p t (a / 4) none h) (and_from _ _ (read_passes p t (a % 4 * 16 + b / 16) none h)
-        (and_from _ _ (read_passes p t (b % 16 * 4 + c / 64) none h) (and_from _ _ (read_passes p t (c % 64) none h) (encode_symbols-passes p t rest none h))))
+    (and_from _ _ (read_passes p t (b % 16 * 4 + c / 64) none h) (and_from _ _ (read_passes p t (c % 64) none h) (encode_symbols-passes p t rest none h))))
 
 encode_with-passes : (p : ℕ → Bool) (t m : List ℕ) → p 0 ≡ true → list_all p t ≡ true → list_all p (encode_with t m) ≡ true
 unfolding encode_with
@@ -47,7 +47,7 @@ unfolding spelling
 spelling_without_feed n =
     let p : ℕ → Bool = λ byte. not (byte == 10) in
     let digest : list_all p (encode_of url_safe_no_pad n.digest) ≡ true =
-        list_all-append p (encode_symbols url_safe_no_pad.encode_table n.digest) [] ∙ and_from _ _ (encode_symbols-passes p url_safe_no_pad.encode_table n.digest refl refl) refl in
+    list_all-append p (encode_symbols url_safe_no_pad.encode_table n.digest) [] ∙ and_from _ _ (encode_symbols-passes p url_safe_no_pad.encode_table n.digest refl refl) refl in
     and_from _ _ (letter_passes p n.kind refl refl)
-        (list_all-append p (encode_of url_safe_no_pad n.digest) (encode_with lower_digits (to_be_bytes w32 n.size))
-        ∙ and_from _ _ digest (encode_with-passes p lower_digits (to_be_bytes w32 n.size) refl refl))
+    (list_all-append p (encode_of url_safe_no_pad n.digest) (encode_with lower_digits (to_be_bytes w32 n.size))
+    ∙ and_from _ _ digest (encode_with-passes p lower_digits (to_be_bytes w32 n.size) refl refl))

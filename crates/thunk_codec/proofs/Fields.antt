@@ -95,8 +95,8 @@ counted_takes bytes x e =
     let len : length (take b.0 a.0.1) ≡ b.0 = omega (arith, length-take b.0 a.0.1, leb-true _ _ c.0) in
     let front : a.0.0 ≡ decimal (length (take b.0 a.0.1)) = (decimal-number_of a.0.0 b.0 b.1).1 ∙ ap decimal (sym len) in
     let whole : bytes ≡ counted (take b.0 a.0.1) ++ drop b.0 a.0.1 =
-        split.0 ∙ ap (λ (v : List ℕ). v ++ 58 ∷ a.0.1) front ∙ ap (λ (v : List ℕ). decimal (length (take b.0 a.0.1)) ++ 58 ∷ v) (sym (take-append-drop b.0 a.0.1))
-        ∙ sym (append_assoc (decimal (length (take b.0 a.0.1))) (58 ∷ take b.0 a.0.1) (drop b.0 a.0.1)) in
+    split.0 ∙ ap (λ (v : List ℕ). v ++ 58 ∷ a.0.1) front ∙ ap (λ (v : List ℕ). decimal (length (take b.0 a.0.1)) ++ 58 ∷ v) (sym (take-append-drop b.0 a.0.1))
+    ∙ sym (append_assoc (decimal (length (take b.0 a.0.1))) (58 ∷ take b.0 a.0.1) (drop b.0 a.0.1)) in
     subst (λ (v : List ℕ × List ℕ). bytes ≡ counted v.0 ++ v.1) (same_Some _ x c.1) whole
 
 decimal_without : (n stop : ℕ) → n < 2 ^ 64 → (48 ≤ stop → stop ≤ 57 → ⊥) → has_no stop (decimal n) ≡ true
@@ -196,8 +196,8 @@ input_take bytes x e =
     let second = behind_takes (32 ∷ []) a.0.1 b.0 b.1 in
     let third = ref_takes b.0 d.0 d.1 in
     let whole : bytes ≡ input_said (a.0.0, d.0.0) ++ 10 ∷ d.0.1 =
-        first ∙ ap (λ (v : List ℕ). counted a.0.0 ++ v) second ∙ ap (λ (v : List ℕ). counted a.0.0 ++ 32 ∷ v) third.0
-        ∙ sym (append_assoc (counted a.0.0) (32 ∷ ref_text d.0.0) (10 ∷ d.0.1)) in
+    first ∙ ap (λ (v : List ℕ). counted a.0.0 ++ v) second ∙ ap (λ (v : List ℕ). counted a.0.0 ++ 32 ∷ v) third.0
+    ∙ sym (append_assoc (counted a.0.0) (32 ∷ ref_text d.0.0) (10 ∷ d.0.1)) in
     subst (λ (v : (List ℕ × Ref) × List ℕ). (bytes ≡ input_said v.0 ++ 10 ∷ v.1) × IsRef v.0.1) (same_Some _ x d.2) (whole, third.1)
 
 -- a path short enough for a number, and a REF

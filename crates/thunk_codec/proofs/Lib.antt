@@ -6,3 +6,6 @@ pub mod Fields
 pub mod Texts
 pub mod Thunks
 pub mod Loops
+pub mod AsAre
+pub mod Made
+pub mod Decodes

@@ -1,5 +1,5 @@
 -- Reading lines of a letter one after another, as a loop does.
-use Rattle.std.proofs.Common.{◌≡◌, ℕ, zero, suc, ◌+◌, ◌<◌, ◌≤◌, Bool, true, false, List, [], ◌∷◌, ◌++◌, length, drop, length-append, append_assoc, Option, Some, None, refl, sym, ap, subst, ◌∙◌, arith}
+use Rattle.std.proofs.Common.{◌≡◌, ℕ, zero, suc, ◌<◌, ◌≤◌, true, false, List, [], ◌∷◌, ◌++◌, length, drop, length-append, append_assoc, Option, Some, None, refl, sym, ap, subst, ◌∙◌, arith}
 use Rattle.std.proofs.lemmas.List.{append-nil}
 use Rattle.thunk_codec.specs.declared.decoding.DecodeFault.{DecodeFault}
 use Rattle.thunk_codec.specs.declared.decoding.DecodeFault.TheVariants.{BadThunk, Memory}
@@ -48,9 +48,9 @@ more_by : {A : Type 0} (letter : ℕ) (said_at : List ℕ → Option (A × List 
     → begins letter rest ≡ true → said_at (drop 2 rest) ≡ Some (x, after) → length after < length rest → Going letter said_at bytes (front ++ x ∷ []) after
 more_by letter said_at bytes front rest x after zero room goes_on begun read shorter = absurd (omega (arith, room, shorter))
 more_by letter said_at bytes front rest x after (suc most) room goes_on begun read shorter = record {
-    most = most;
-    room = omega (arith, room, shorter);
-    goes_on = sym (ap (with_front front) (one_line letter said_at most rest x after begun read) ∙ with_front-more front x (lines_at letter said_at most after)) ∙ goes_on;
+  most = most;
+  room = omega (arith, room, shorter);
+  goes_on = sym (ap (with_front front) (one_line letter said_at most rest x after begun read) ∙ with_front-more front x (lines_at letter said_at most after)) ∙ goes_on;
 }
 
 pub going_more : {A : Type 0} {said_at : List ℕ → Option (A × List ℕ)} {said : A → List ℕ} {P Q : A → Type 0} (reader : IsReader said_at said P Q) (letter : ℕ) (bytes : List ℕ) (front : List A) (rest : List ℕ) (x : A) (after : List ℕ)

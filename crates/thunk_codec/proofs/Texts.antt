@@ -11,6 +11,7 @@ use Rattle.thunk_codec.specs.declared.reference.Ref.{Ref}
 use Rattle.thunk_codec.specs.Maybe.{◌>>=◌}
 use Rattle.thunk_codec.specs.Reference.{IsRef, ref_text}
 use Rattle.thunk_codec.specs.Thunk.{Parts, line, counted, head_line, end_line, function_line, arg_line, env_line, input_line, output_line, text_of}
+use Rattle.thunk_codec.specs.Raw.{HasRefs}
 use Rattle.thunk_codec.specs.Reading.{behind, ref_at, bytes_at, env_at, input_at, lines_at, all_lines_at, parts_at}
 use Rattle.thunk_codec.proofs.Steps.{bind_some}
 use Rattle.thunk_codec.proofs.Fields.{IsReader, IsShort, IsPair, IsInput, env_said, input_said, behind_takes, ref_takes, ref_at-again, bytes_reader, env_reader, input_reader}
@@ -49,12 +50,12 @@ lines_take {A} {said_at} {said} {P} {Q} reader letter (suc most) bytes x e =
           let first = reader.takes (drop 2 bytes) a.0 a.1 in
           let others = lines_take reader letter most a.0.1 b.0 b.1 in
           let whole : bytes ≡ lines_of letter said (a.0.0 ∷ b.0.0) ++ b.0.1 =
-              begins_with letter bytes more
-              ∙ ap (λ (v : List ℕ). letter ∷ 32 ∷ v) first.0
-              ∙ sym (line_before letter (said a.0.0) a.0.1)
-              ∙ ap (λ (v : List ℕ). line letter (said a.0.0) ++ v) others.0
-              ∙ sym (append_assoc (line letter (said a.0.0)) (lines_of letter said b.0.0) b.0.1)
-              ∙ ap (λ (v : List ℕ). v ++ b.0.1) (sym (flat_map-cons (λ x. line letter (said x)) a.0.0 b.0.0)) in
+          begins_with letter bytes more
+          ∙ ap (λ (v : List ℕ). letter ∷ 32 ∷ v) first.0
+          ∙ sym (line_before letter (said a.0.0) a.0.1)
+          ∙ ap (λ (v : List ℕ). line letter (said a.0.0) ++ v) others.0
+          ∙ sym (append_assoc (line letter (said a.0.0)) (lines_of letter said b.0.0) b.0.1)
+          ∙ ap (λ (v : List ℕ). v ++ b.0.1) (sym (flat_map-cons (λ x. line letter (said x)) a.0.0 b.0.0)) in
           subst (λ (v : List A × List ℕ). (bytes ≡ lines_of letter said v.0 ++ v.1) × AllByRecursion P v.0) (same_Some _ x b.2) (whole, (first.1, others.1))
       | inr done ↦
           subst (λ (v : List A × List ℕ). (bytes ≡ lines_of letter said v.0 ++ v.1) × AllByRecursion P v.0) (same_Some _ x (rw done at e)) (refl, tt)
@@ -68,9 +69,9 @@ lines_again reader letter (suc most) [] rest h few done = rw done refl
 lines_again reader letter zero (x ∷ xs) rest h few done = absurd (omega (arith, few))
 lines_again {A} {said_at} {said} reader letter (suc most) (x ∷ xs) rest h few done =
     let regrouped : lines_of letter said (x ∷ xs) ++ rest ≡ letter ∷ 32 ∷ (said x ++ 10 ∷ (lines_of letter said xs ++ rest)) =
-        ap (λ (v : List ℕ). v ++ rest) (flat_map-cons (λ y. line letter (said y)) x xs)
-        ∙ append_assoc (line letter (said x)) (lines_of letter said xs) rest
-        ∙ line_before letter (said x) (lines_of letter said xs ++ rest) in
+    ap (λ (v : List ℕ). v ++ rest) (flat_map-cons (λ y. line letter (said y)) x xs)
+    ∙ append_assoc (line letter (said x)) (lines_of letter said xs) rest
+    ∙ line_before letter (said x) (lines_of letter said xs ++ rest) in
     ap (lines_at letter said_at (suc most)) regrouped
     ∙ rw (begins_again letter (said x ++ 10 ∷ (lines_of letter said xs ++ rest)), reader.again x (lines_of letter said xs ++ rest) h.0, lines_again reader letter most xs rest h.1 (omega (arith, few)) done) refl
 
@@ -106,11 +107,6 @@ text_before t rest =
     regroup head_line (function_line t.function) (flat_map arg_line t.args) (flat_map env_line t.envs) (flat_map input_line t.inputs) (flat_map output_line t.outputs) end_line rest
     ∙ ap (λ (v : List ℕ). head_line ++ v) (line_before 102 (ref_text t.function) (behind_function t rest))
 
--- the REFs are REFs
-pub record HasRefs (t : Parts) : Type 0 where
-  pub function : IsRef t.function
-  pub inputs : AllByRecursion (λ input. IsRef input.1) t.inputs
-
 -- the steps by which parts are read
 record IsRead (bytes : List ℕ) (x : Parts × List ℕ) : Type 0 where
   first : List ℕ
@@ -143,9 +139,23 @@ parts_read bytes x e =
     let h = bind_some (all_lines_at 111 bytes_at g.0.1) _ x g.2 in
     let i = bind_some (behind end_line h.0.1) _ x h.2 in
     record {
-        first = a.0; letter = b.0; function = c.0; args = d.0; envs = f.0; inputs = g.0; outputs = h.0; rest = i.0;
-        first_is = a.1; letter_is = b.1; function_is = c.1; args_is = d.1; envs_is = f.1; inputs_is = g.1; outputs_is = h.1; rest_is = i.1;
-        whole = same_Some _ x i.2;
+      first = a.0;
+      letter = b.0;
+      function = c.0;
+      args = d.0;
+      envs = f.0;
+      inputs = g.0;
+      outputs = h.0;
+      rest = i.0;
+      first_is = a.1;
+      letter_is = b.1;
+      function_is = c.1;
+      args_is = d.1;
+      envs_is = f.1;
+      inputs_is = g.1;
+      outputs_is = h.1;
+      rest_is = i.1;
+      whole = same_Some _ x i.2;
     }
 
 pub parts_take : (bytes : List ℕ) (x : Parts × List ℕ) → parts_at bytes ≡ Some x → (bytes ≡ text_of x.0 ++ x.1) × HasRefs x.0

@@ -13,11 +13,12 @@ use Rattle.thunk_codec.specs.Maybe.{◌>>◌}
 use Rattle.thunk_codec.specs.Path.{is_path}
 use Rattle.thunk_codec.specs.Reference.{IsRef}
 use Rattle.thunk_codec.specs.Thunk.{Parts, IsThunk, Text, text_of, counted, arg_line, env_line, input_line, output_line, has_no_zero, is_letter, is_digit, is_identifier, rises, are_distinct}
+use Rattle.thunk_codec.specs.Raw.{HasRefs}
 use Rattle.thunk_codec.specs.Reading.{parts_at, keeps_rules, thunk_of}
 use Rattle.thunk_codec.proofs.Steps.{bind_some, test_some}
 use Rattle.thunk_codec.proofs.Lengths.{length-arg_line, length-output_line, length-line, length-counted, length-input_line}
 use Rattle.thunk_codec.proofs.Fields.{has_no, IsShort, IsPair, IsInput}
-use Rattle.thunk_codec.proofs.Texts.{HasRefs, IsReadable, parts_take, parts_again}
+use Rattle.thunk_codec.proofs.Texts.{IsReadable, parts_take, parts_again}
 
 -- ---- the parts of a thunk are readable
 
@@ -71,11 +72,11 @@ unfolding text_of
 thunk_readable t rules =
     let whole = simp length-append at rules.size in
     record {
-        function = rules.function;
-        args = short_args t.args (omega (arith, whole));
-        envs = pairs t.envs (omega (arith, whole)) rules.keys;
-        inputs = input_parts t.inputs (omega (arith, whole)) rules.input_refs;
-        outputs = short_outputs t.outputs (omega (arith, whole));
+      function = rules.function;
+      args = short_args t.args (omega (arith, whole));
+      envs = pairs t.envs (omega (arith, whole)) rules.keys;
+      inputs = input_parts t.inputs (omega (arith, whole)) rules.input_refs;
+      outputs = short_outputs t.outputs (omega (arith, whole));
     }
 
 -- ---- both forms
@@ -85,7 +86,7 @@ mapped_refs [] h = tt
 mapped_refs (input ∷ inputs) h = (h.0, mapped_refs inputs h.1)
 
 -- parts that pass the test and have a short text are a thunk's
-rules_from : (t : Parts) → HasRefs t → length (text_of t) ≤ max_size → keeps_rules t ≡ true → IsThunk t
+pub rules_from : (t : Parts) → HasRefs t → length (text_of t) ≤ max_size → keeps_rules t ≡ true → IsThunk t
 rules_from t refs size h =
     let a = and_parts (list_all has_no_zero t.args) _ h in
     let b = and_parts (list_all is_identifier (map (λ env. env.0) t.envs)) _ a.1 in
@@ -98,27 +99,27 @@ rules_from t refs size h =
     let j = and_parts (are_distinct t.outputs) _ i.1 in
     let k = and_parts (leb 1 (length t.outputs)) (leb (length t.outputs) 64) j.1 in
     record {
-        function = refs.function;
-        args = a.0;
-        keys = b.0;
-        env_values = c.0;
-        keys_rise = d.0;
-        input_refs = mapped_refs t.inputs refs.inputs;
-        input_paths = e.0;
-        paths_rise = f.0;
-        few_inputs = leb-true _ _ g.0;
-        output_paths = i.0;
-        outputs_differ = j.0;
-        some_output = leb-true _ _ k.0;
-        few_outputs = leb-true _ _ k.1;
-        size = size;
+      function = refs.function;
+      args = a.0;
+      keys = b.0;
+      env_values = c.0;
+      keys_rise = d.0;
+      input_refs = mapped_refs t.inputs refs.inputs;
+      input_paths = e.0;
+      paths_rise = f.0;
+      few_inputs = leb-true _ _ g.0;
+      output_paths = i.0;
+      outputs_differ = j.0;
+      some_output = leb-true _ _ k.0;
+      few_outputs = leb-true _ _ k.1;
+      size = size;
     }
 
 -- a thunk's parts pass the test
 rules_test : (t : Parts) → IsThunk t → keeps_rules t ≡ true
 rules_test t h =
     and_from _ _ h.args (and_from _ _ h.keys (and_from _ _ h.env_values (and_from _ _ h.keys_rise (and_from _ _ h.input_paths (and_from _ _ h.paths_rise
-        (and_from _ _ (le-leb _ _ h.few_inputs) (and_from _ _ h.output_paths (and_from _ _ h.outputs_differ (and_from _ _ (le-leb _ _ h.some_output) (le-leb _ _ h.few_outputs))))))))))
+    (and_from _ _ (le-leb _ _ h.few_inputs) (and_from _ _ h.output_paths (and_from _ _ h.outputs_differ (and_from _ _ (le-leb _ _ h.some_output) (le-leb _ _ h.few_outputs))))))))))
 
 -- what is read has this text
 pub thunk_of-text : (bytes : List ℕ) (t : Parts) → thunk_of bytes ≡ Some t → Text bytes t

@@ -1,5 +1,5 @@
 -- What code that reads gives, against what is read.
-use Rattle.std.specs.Prelude.{◌≡◌, Option, Some, None, Result, Ok, Err}
+use Rattle.std.specs.Prelude.{◌≡◌, Bool, if◌then◌else◌, Option, Some, None, Result, Ok, Err}
 use Rattle.thunk_codec.specs.declared.decoding.DecodeFault.{DecodeFault}
 use Rattle.thunk_codec.specs.declared.decoding.DecodeFault.TheVariants.{BadThunk, Memory}
 
@@ -12,3 +12,7 @@ Refuses Memory read = Unit {0}
 abbrev pub Gives : {X Y : Type 0} → (X → Y) → Result X DecodeFault → Option Y → Type 0
 Gives view (Ok x) read = read ≡ Some (view x)
 Gives view (Err fault) read = Refuses fault read
+
+-- the value, where the test holds
+abbrev pub only_if : {Y : Type 0} → Bool → Y → Option Y
+only_if test x = if test then Some x else None

@@ -1,7 +1,8 @@
 -- The parts that a text lists, before the rules on them are looked at.
 use Rattle.std.specs.Prelude.{◌&&◌, nat_le, Bool, length, map}
-use Rattle.std.specs.List.{list_all}
+use Rattle.std.specs.List.{list_all, AllByRecursion}
 use Rattle.thunk_codec.specs.declared.parts.RawParts.{RawParts}
+use Rattle.thunk_codec.specs.Reference.{IsRef}
 use Rattle.thunk_codec.specs.Thunk.{Parts, has_no_zero, is_identifier, rises, are_distinct}
 
 -- the parts
@@ -15,8 +16,13 @@ keeps_numbers t = nat_le (length t.inputs) 4096 && (nat_le 1 (length t.outputs) 
 -- the rules on arguments and environments
 abbrev pub keeps_bytes : Parts → Bool
 keeps_bytes t = list_all has_no_zero t.args
-    && (list_all is_identifier (map (λ env. env.0) t.envs) && list_all has_no_zero (map (λ env. env.1) t.envs))
+    && (list_all (λ env. is_identifier env.0) t.envs && list_all (λ env. has_no_zero env.1) t.envs)
 
 -- the rules on orders
 abbrev pub keeps_orders : Parts → Bool
 keeps_orders t = rises (map (λ env. env.0) t.envs) && (rises (map (λ input. input.0) t.inputs) && are_distinct t.outputs)
+
+-- the REFs are REFs
+pub record HasRefs (t : Parts) : Type 0 where
+  pub function : IsRef t.function
+  pub inputs : AllByRecursion (λ input. IsRef input.1) t.inputs

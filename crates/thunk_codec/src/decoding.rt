@@ -1,12 +1,21 @@
 //! Reading the text of a thunk.
 
-ghost use Rattle.std.specs.Prelude.{◌≡◌, Some, None, IfOk, IsErrOf};
+ghost use Rattle.std.specs.Prelude.{◌≡◌, ◌≤◌, length, Some, None, IfOk, IsErrOf};
+ghost use Rattle.object_name.specs.Name.{max_size};
 ghost use Rattle.thunk_codec.specs.declared.decoding.DecodeFault.TheVariants.{Memory};
-ghost use Rattle.thunk_codec.specs.Thunk.{Parts, Text};
-ghost use Rattle.thunk_codec.specs.Reading.{thunk_of};
+ghost use Rattle.thunk_codec.specs.Gives.{Gives, only_if};
+ghost use Rattle.thunk_codec.specs.Raw.{HasRefs, parts_of};
+ghost use Rattle.thunk_codec.specs.Reading.{keeps_rules, thunk_of};
+ghost use Rattle.thunk_codec.specs.Thunk.{Parts, Text, text_of};
 
+use crate::in_place::{inputs_as_are, paths_as_are};
+use crate::parts::{RawParts, parts_at};
+use crate::rules::{keeps_bytes, keeps_numbers, keeps_orders};
 use crate::thunk::Thunk;
 use std::alloc::{AllocError, AllocFailed, Global};
+
+/// The greatest length of a thunk's text, in bytes.
+const MAX_SIZE: u32 = 16_777_216;
 
 /// Why there is no thunk.
 #[derive(Clone, Copy, Debug, PartialEq, Eq)]
@@ -33,6 +42,43 @@ impl<T: Drop> From<AllocFailed<T>> for DecodeFault {
     }
 }
 
+/// The thunk with the parts of a text, where they keep the rules.
+fn thunk_with(alloc: Global, raw: RawParts) -> Result<Thunk, DecodeFault>
+    requires refs { HasRefs (parts_of raw) }
+    requires size { length (text_of (parts_of raw)) ≤ max_size }
+    ensures { Gives (λ t. t) result (only_if (keeps_rules (parts_of raw)) (parts_of raw)) }
+{
+    if !keeps_numbers(&raw) {
+        return Err(DecodeFault::BadThunk);
+    }
+    if !keeps_bytes(&raw) {
+        return Err(DecodeFault::BadThunk);
+    }
+    if !keeps_orders(&raw) {
+        return Err(DecodeFault::BadThunk);
+    }
+    let inputs = inputs_as_are(alloc, raw.inputs.as_slice())?;
+    let outputs = paths_as_are(alloc, raw.outputs.as_slice())?;
+    Ok(Thunk::from_parts(raw.function, raw.args, raw.envs, inputs, outputs))
+}
+
+/// The thunk whose text the bytes are, by the definition as a total function.
+fn thunk_at(alloc: Global, bytes: &[u8]) -> Result<Thunk, DecodeFault>
+    ensures { Gives (λ t. t) result (thunk_of bytes.now) }
+{
+    if bytes.len() > MAX_SIZE as usize {
+        return Err(DecodeFault::BadThunk);
+    }
+    let (raw, rest) = match parts_at(alloc, bytes) {
+        Ok(read) => read,
+        Err(fault) => return Err(fault),
+    };
+    if !rest.is_empty() {
+        return Err(DecodeFault::BadThunk);
+    }
+    thunk_with(alloc, raw)
+}
+
 /// The thunk whose text the bytes are, all of them.
 pub fn decode(alloc: Global, bytes: &[u8]) -> Result<Thunk, DecodeFault>
     // What is read has this text.
@@ -43,7 +89,5 @@ pub fn decode(alloc: Global, bytes: &[u8]) -> Result<Thunk, DecodeFault>
     ensures exact { IfOk result (λ t. thunk_of bytes.now ≡ Some t) }
     ensures none { IsErrOf result DecodeFault.BadThunk → thunk_of bytes.now ≡ None }
 {
-    let _ = alloc;
-    let _ = bytes;
-    Err(DecodeFault::Memory)
+    thunk_at(alloc, bytes)
 }

@@ -1,7 +1,8 @@
 //! Jobs and their outcomes.
 
 use crate::path::Path;
-use object_name::{Bytes, Many};
+use object_name::{Bytes, Many, TryCopy};
+use std::alloc::{AllocError, Global};
 
 /// What a function is run on: a thunk whose references are all values, with the bytes of those values in place of their names.
 #[derive(Debug, Drop)]
@@ -13,6 +14,23 @@ pub struct Job {
     pub outputs: Many<Path>,
 }
 
+impl TryCopy for Job {
+    fn copy(&self, alloc: Global) -> Result<Self, AllocError> {
+        let function = self.function.copy(alloc)?;
+        let args = self.args.copy(alloc)?;
+        let envs = self.envs.copy(alloc)?;
+        let inputs = self.inputs.copy(alloc)?;
+        let outputs = self.outputs.copy(alloc)?;
+        Ok(Job {
+            function,
+            args,
+            envs,
+            inputs,
+            outputs,
+        })
+    }
+}
+
 /// What running a function on a job gave.
 #[derive(Debug, Drop)]
 pub enum Outcome {
@@ -20,4 +38,13 @@ pub enum Outcome {
     Done(Many<Bytes>),
     /// A status from 1 to 204.
     Failed(u8),
+}
+
+impl TryCopy for Outcome {
+    fn copy(&self, alloc: Global) -> Result<Self, AllocError> {
+        match self {
+            Outcome::Done(outputs) => Ok(Outcome::Done(outputs.copy(alloc)?)),
+            Outcome::Failed(status) => Ok(Outcome::Failed(*status)),
+        }
+    }
 }

@@ -3,6 +3,7 @@
 
 mod decoding;
 mod function;
+mod in_place;
 mod job;
 pub mod laws;
 mod lines;
@@ -21,3 +22,6 @@ pub use job::{Job, Outcome};
 pub use path::Path;
 pub use reference::Ref;
 pub use thunk::Thunk;
+
+#[cfg(test)]
+mod tests;

@@ -5,8 +5,8 @@ ghost use Rattle.thunk_codec.specs.declared.reference.Ref.{Ref};
 ghost use Rattle.thunk_codec.specs.Reference.{IsRef, ref_text, ref_of, value_ref_of, out_ref_of};
 ghost use Rattle.thunk_codec.specs.Job.{ref_name};
 
-use object_name::{Bytes, Kind, Name, read_number, write_number};
-use std::alloc::AllocError;
+use object_name::{Bytes, Kind, Name, TryCopy, read_number, write_number};
+use std::alloc::{AllocError, Global};
 
 /// How long the spelling of a name is.
 const SPELLING: usize = 52;
@@ -55,6 +55,12 @@ impl Ref {
             Ref::Value(_) => out.append(&spelling),
             Ref::Out(_, index) => write_output(&spelling, *index, out),
         }
+    }
+}
+
+impl TryCopy for Ref {
+    fn copy(&self, _alloc: Global) -> Result<Self, AllocError> {
+        Ok(*self)
     }
 }
 

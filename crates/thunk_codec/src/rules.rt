@@ -92,3 +92,47 @@ fn are_distinct(texts: &[Bytes]) -> bool
     }
     true
 }
+
+/// Whether each key is an identifier.
+fn have_identifiers(envs: &[(Bytes, Bytes)]) -> bool
+    ensures { result ≡ list_all (λ env. is_identifier env.0) envs.now }
+{
+    envs.iter().all(|env| is_identifier(env.0.as_slice()))
+}
+
+/// Whether no value has a zero byte.
+fn have_no_zero(envs: &[(Bytes, Bytes)]) -> bool
+    ensures { result ≡ list_all (λ env. has_no_zero env.1) envs.now }
+{
+    envs.iter().all(|env| has_no_zero(env.1.as_slice()))
+}
+
+/// Whether no argument has a zero byte.
+fn args_have_no_zero(args: &[Bytes]) -> bool
+    ensures { result ≡ list_all has_no_zero args.now }
+{
+    args.iter().all(|arg| has_no_zero(arg.as_slice()))
+}
+
+/// Whether there are few enough inputs, and as many outputs as a thunk has.
+pub fn keeps_numbers(raw: &RawParts) -> bool
+    ensures { result ≡ keeps_numbers (parts_of raw.now) }
+{
+    raw.inputs.len() <= 4096 && (1 <= raw.outputs.len() && raw.outputs.len() <= 64)
+}
+
+/// Whether the arguments and the environment have the bytes that they may have.
+pub fn keeps_bytes(raw: &RawParts) -> bool
+    ensures { result ≡ keeps_bytes (parts_of raw.now) }
+{
+    args_have_no_zero(raw.args.as_slice())
+        && (have_identifiers(raw.envs.as_slice()) && have_no_zero(raw.envs.as_slice()))
+}
+
+/// Whether keys and inputs stand in their orders, and no output stands twice.
+pub fn keeps_orders(raw: &RawParts) -> bool
+    ensures { result ≡ keeps_orders (parts_of raw.now) }
+{
+    rise(raw.envs.as_slice())
+        && (rise(raw.inputs.as_slice()) && are_distinct(raw.outputs.as_slice()))
+}

@@ -7,7 +7,8 @@ ghost use Rattle.thunk_codec.specs.Job.{resolved_size};
 use crate::path::Path;
 use crate::reference::Ref;
 use crate::resolved::{args_size, envs_size, inputs_size, outputs_size};
-use object_name::{Bytes, Many};
+use object_name::{Bytes, Many, TryCopy};
+use std::alloc::{AllocError, Global};
 use std::marker::Model;
 
 /// A computation that is named by its content. Contracts see its parts; its type keeps that they have a text.
@@ -31,6 +32,26 @@ impl Model for Thunk {
 }
 
 impl Thunk {
+    /// The thunk with these parts.
+    pub(crate) fn from_parts(
+        function: Ref,
+        args: Many<Bytes>,
+        envs: Many<(Bytes, Bytes)>,
+        inputs: Many<(Path, Ref)>,
+        outputs: Many<Path>,
+    ) -> Self
+        requires { IsThunk (record { function = function; args = args; envs = envs; inputs = inputs; outputs = outputs }) }
+        ensures { result ≡ record { function = function; args = args; envs = envs; inputs = inputs; outputs = outputs } }
+    {
+        Thunk {
+            function,
+            args,
+            envs,
+            inputs,
+            outputs,
+        }
+    }
+
     pub fn function(&self) -> &Ref
         ensures function { result.now ≡ self.now.function }
         ensures rules { IsThunk self.now }
@@ -74,5 +95,21 @@ impl Thunk {
         let inputs = inputs_size(self.inputs.as_slice());
         let outputs = outputs_size(self.outputs.as_slice());
         20 + function + args + envs + inputs + outputs
+    }
+}
+
+impl TryCopy for Thunk {
+    fn copy(&self, alloc: Global) -> Result<Self, AllocError> {
+        let args = self.args.copy(alloc)?;
+        let envs = self.envs.copy(alloc)?;
+        let inputs = self.inputs.copy(alloc)?;
+        let outputs = self.outputs.copy(alloc)?;
+        Ok(Thunk {
+            function: self.function,
+            args,
+            envs,
+            inputs,
+            outputs,
+        })
     }
 }

@@ -1,4 +1,4 @@
-use Rattle.std.proofs.Common.{arith, ℕ, List, get_or, length}
+use Rattle.std.proofs.Common.{arith, ℕ, List}
 use Rattle.std.proofs.lemmas.List.Folds.{length-flat_map-take}
 use Rattle.gg_cli.proofs.cat.fit_together.Goals as goal
 

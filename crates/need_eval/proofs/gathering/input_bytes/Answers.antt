@@ -1,4 +1,4 @@
-use Rattle.std.proofs.Common.{◌≡◌, sym, ◌∙◌, arith}
+use Rattle.std.proofs.Common.{sym, ◌∙◌, arith}
 use Rattle.std.proofs.lemmas.Result.{err_from_is_err_and}
 use Rattle.thunk_codec.specs.Job.{ref_name}
 use Rattle.need_eval.proofs.Inputs.{AreLeft-more, AreLeft-stop, AreLeft-end, with_bytes-more, sizes_of-more, sizes_of-end, bytes_of-same}

@@ -1,4 +1,4 @@
-use Rattle.std.proofs.Common.{◌≡◌, sym, ap, ◌∙◌}
+use Rattle.std.proofs.Common.{sym, ◌∙◌}
 use Rattle.std.proofs.lemmas.Result.{err_from_is_err_and}
 use Rattle.need_eval.specs.Pieces.{stepped}
 use Rattle.need_eval.proofs.Preparing.{prepared-thunk, prepared-entered, prepared-resolved}

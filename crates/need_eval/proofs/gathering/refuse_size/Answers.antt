@@ -1,8 +1,5 @@
-use Rattle.std.proofs.Common.{◌≡◌, sym, ap, ◌∙◌, length}
+use Rattle.std.proofs.Common.{sym, ap, ◌∙◌, length}
 use Rattle.std.proofs.lemmas.Result.{err_from_is_err_and}
-use Rattle.thunk_codec.specs.Job.{ref_name}
-use Rattle.need_eval.specs.Evaluation.{bytes_of}
-use Rattle.need_eval.proofs.Inputs.{bytes_of-same}
 use Rattle.need_eval.proofs.Resolving.{resolved-function, resolved-inputs, resolved-over}
 use Rattle.need_eval.proofs.gathering.refuse_size.Goals as goal
 

@@ -1,4 +1,3 @@
-use Rattle.std.proofs.Common.{◌≡◌, sym, ap, ◌∙◌}
 use Rattle.need_eval.proofs.StoreOne.{kept_gives, kept_stops, kept_cause}
 use Rattle.need_eval.proofs.writing.keep.Goals as goal
 

@@ -1,4 +1,3 @@
-use Rattle.std.proofs.Common.{◌≡◌, sym, ap, ◌∙◌}
 use Rattle.need_eval.proofs.writing.keep_outputs.Goals as goal
 
 pub returns-in-Done-clause-writes : goal.returns-in-Done-clause-writes

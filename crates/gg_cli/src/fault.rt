@@ -1,0 +1,77 @@
+//! Why a command line isn't done.
+
+ghost use Rattle.std.specs.Prelude.{◌≡◌};
+ghost use Rattle.gg_cli.specs.declared.fault.TopFault.TheVariants.{Memory};
+ghost use Rattle.gg_cli.specs.Answer.{refusal_status};
+
+use crate::status::Status;
+use need_eval::Refusal;
+use object_name::Name;
+use std::alloc::{AllocError, AllocFailed};
+
+/// Why a command line isn't done.
+#[derive(Clone, Copy, Debug, PartialEq, Eq)]
+pub(crate) enum TopFault {
+    /// The words are no command line.
+    Usage,
+    /// What was wanted is refused.
+    Refused(Refusal),
+    /// The reduction of this thunk needs what isn't built yet.
+    NotBuilt(Name),
+    /// Other bytes are held under the name of an output.
+    Clash(Name),
+    /// The keeper failed.
+    StoreFailed,
+    /// The output failed.
+    OutputFailed,
+    /// Memory was refused.
+    Memory,
+}
+
+impl From<AllocError> for TopFault {
+    ghost from_gives = { λ _ fault. fault ≡ Memory };
+
+    fn from(_: AllocError) -> Self {
+        TopFault::Memory
+    }
+}
+
+impl<T: Drop> From<AllocFailed<T>> for TopFault {
+    ghost from_gives = { λ _ fault. fault ≡ Memory };
+
+    fn from(_: AllocFailed<T>) -> Self {
+        TopFault::Memory
+    }
+}
+
+/// The status of a refusal.
+fn refusal_status(refusal: &Refusal) -> Status
+    ensures { result ≡ refusal_status refusal.now }
+{
+    match refusal {
+        Refusal::Missing(_) => Status::Missing,
+        Refusal::BadThunk(_) => Status::BadThunk,
+        Refusal::NoOutput { .. } => Status::NoOutput,
+        Refusal::Spent { .. } => Status::Spent,
+        Refusal::FunctionFailed { .. } => Status::FunctionFailed,
+    }
+}
+
+impl TopFault {
+    ghost use Rattle.gg_cli.specs.Faults.{fault_status};
+
+    /// The status that it ends with.
+    pub(crate) fn status(&self) -> Status
+        ensures { result ≡ fault_status self.now }
+    {
+        match self {
+            TopFault::Usage => Status::Usage,
+            TopFault::Refused(refusal) => refusal_status(refusal),
+            TopFault::NotBuilt(_) => Status::NotBuilt,
+            TopFault::Clash(_) => Status::Clash,
+            TopFault::StoreFailed => Status::StoreFault,
+            TopFault::OutputFailed => Status::ByteFault,
+            TopFault::Memory => Status::Memory,
+        }
+    }
+}

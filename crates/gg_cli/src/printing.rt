@@ -1,0 +1,42 @@
+//! What is printed of values.
+
+ghost use Rattle.std.specs.Prelude.{All};
+ghost use Rattle.thunk_codec.specs.Reference.{IsRef};
+ghost use Rattle.gg_cli.specs.Texts.{value_line, value_lines};
+ghost use Rattle.gg_cli.specs.Writing.{Writes};
+
+use crate::writing::write;
+use object_name::{Bytes, Name, Sink, Trouble};
+use std::alloc::Global;
+use thunk_codec::Ref;
+
+/// Writes the line of a value: its name and the item that it is the value of.
+fn print_value<S: Sink>(alloc: Global, sink: &mut S, name: &Name, item: &Ref) -> Result<(), Trouble>
+    requires { IsRef item.now }
+    ensures { Writes (value_line name.now item.now) (S.written sink.old) (S.written sink.new) (S.faults sink.old) (S.faults sink.new) result }
+{
+    let mut spelling = [0; 52];
+    name.spell(&mut spelling);
+    let mut line = Bytes::new(alloc);
+    line.append(&spelling)?;
+    line.append(b" ")?;
+    item.write(&mut line)?;
+    line.append(b"\n")?;
+    write(sink, line.as_slice())
+}
+
+/// Writes a line for each value, in order.
+pub(crate) fn print_values<S: Sink>(
+    alloc: Global,
+    sink: &mut S,
+    names: &[Name],
+    items: &[Ref],
+) -> Result<(), Trouble>
+    requires { All IsRef items.now }
+    ensures { Writes (value_lines names.now items.now) (S.written sink.old) (S.written sink.new) (S.faults sink.old) (S.faults sink.new) result }
+{
+    'values: for (name, item) in names.iter().zip(items) {
+        print_value(alloc, sink, name, item)?;
+    }
+    Ok(())
+}

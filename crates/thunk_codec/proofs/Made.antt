@@ -1,0 +1,85 @@
+-- A thunk made of the parts of a text, where they keep the rules.
+use Rattle.std.proofs.Common.{◌≡◌, ◌≤◌, Bool, true, false, leb, List, ℕ, length, map, Some, None, refl, sym, subst, ◌∙◌}
+use Rattle.std.specs.List.{list_all}
+use Rattle.std.proofs.lemmas.Bool.{and_parts, and_from, false_from_ne_true, false≢true}
+use Rattle.std.proofs.lemmas.List.Folds.{list_all-map}
+use Rattle.object_name.specs.Name.{max_size}
+use Rattle.thunk_codec.specs.declared.decoding.DecodeFault.{DecodeFault}
+use Rattle.thunk_codec.specs.declared.decoding.DecodeFault.TheVariants.{BadThunk, Memory}
+use Rattle.thunk_codec.specs.declared.reference.Ref.{Ref}
+use Rattle.thunk_codec.specs.Gives.{Refuses, only_if}
+use Rattle.thunk_codec.specs.Path.{is_path}
+use Rattle.thunk_codec.specs.Thunk.{Parts, IsThunk, text_of, has_no_zero, is_identifier, rises, are_distinct}
+use Rattle.thunk_codec.specs.Raw.{HasRefs, keeps_numbers, keeps_bytes, keeps_orders}
+use Rattle.thunk_codec.specs.Reading.{keeps_rules}
+use Rattle.thunk_codec.proofs.AsAre.{only_if_none, none_is_false}
+use Rattle.thunk_codec.proofs.Thunks.{rules_from}
+
+-- the rules, in the order in which the code looks at them
+pub record Keeps (t : Parts) : Type 0 where
+  pub numbers : keeps_numbers t ≡ true
+  pub bytes : keeps_bytes t ≡ true
+  pub orders : keeps_orders t ≡ true
+  pub inputs : list_all is_path (map (λ input. input.0) t.inputs) ≡ true
+  pub outputs : list_all is_path t.outputs ≡ true
+
+keys_of : (t : Parts) → list_all is_identifier (map (λ env. env.0) t.envs) ≡ list_all (λ env. is_identifier env.0) t.envs
+keys_of t = list_all-map is_identifier (λ (env : List ℕ × List ℕ). env.0) t.envs
+
+values_of : (t : Parts) → list_all has_no_zero (map (λ env. env.1) t.envs) ≡ list_all (λ env. has_no_zero env.1) t.envs
+values_of t = list_all-map has_no_zero (λ (env : List ℕ × List ℕ). env.1) t.envs
+
+pub rules_kept : (t : Parts) → keeps_rules t ≡ true → Keeps t
+rules_kept t h =
+    let a = and_parts (list_all has_no_zero t.args) _ h in
+    let b = and_parts (list_all is_identifier (map (λ env. env.0) t.envs)) _ a.1 in
+    let c = and_parts (list_all has_no_zero (map (λ env. env.1) t.envs)) _ b.1 in
+    let d = and_parts (rises (map (λ env. env.0) t.envs)) _ c.1 in
+    let e = and_parts (list_all is_path (map (λ input. input.0) t.inputs)) _ d.1 in
+    let f = and_parts (rises (map (λ input. input.0) t.inputs)) _ e.1 in
+    let g = and_parts (leb (length t.inputs) 4096) _ f.1 in
+    let i = and_parts (list_all is_path t.outputs) _ g.1 in
+    let j = and_parts (are_distinct t.outputs) _ i.1 in
+    record {
+      numbers = and_from _ _ g.0 j.1;
+      bytes = and_from _ _ a.0 (and_from _ _ (sym (keys_of t) ∙ b.0) (sym (values_of t) ∙ c.0));
+      orders = and_from _ _ d.0 (and_from _ _ f.0 j.0);
+      inputs = e.0;
+      outputs = i.0;
+    }
+
+pub kept_rules : (t : Parts) → Keeps t → keeps_rules t ≡ true
+kept_rules t h =
+    let numbers = and_parts (leb (length t.inputs) 4096) _ h.numbers in
+    let args = and_parts (list_all has_no_zero t.args) _ h.bytes in
+    let envs = and_parts (list_all (λ env. is_identifier env.0) t.envs) _ args.1 in
+    let orders = and_parts (rises (map (λ env. env.0) t.envs)) _ h.orders in
+    let others = and_parts (rises (map (λ input. input.0) t.inputs)) _ orders.1 in
+    and_from _ _ args.0 (and_from _ _ (keys_of t ∙ envs.0) (and_from _ _ (values_of t ∙ envs.1) (and_from _ _ orders.0 (and_from _ _ h.inputs (and_from _ _ others.0
+    (and_from _ _ numbers.0 (and_from _ _ h.outputs (and_from _ _ others.1 numbers.1))))))))
+
+-- a test that holds where the rules are kept, and doesn't hold
+pub not_kept : (t : Parts) (test : Bool) → (Keeps t → test ≡ true) → test ≡ false → only_if (keeps_rules t) t ≡ None
+not_kept t test needs fails = only_if_none (keeps_rules t) t (false_from_ne_true (keeps_rules t) (λ h. false≢true (sym fails ∙ needs (rules_kept t h))))
+
+pub refused : {Y : Type 0} (fault : DecodeFault) (t : Parts) (test : Bool) (x : Y) → (Keeps t → test ≡ true) → Refuses fault (only_if test x) → Refuses fault (only_if (keeps_rules t) t)
+refused BadThunk t test x needs h = not_kept t test needs (none_is_false test x h)
+refused Memory t test x needs h = tt
+
+-- what the test let through
+pub let_through : {Y : Type 0} (test : Bool) (x y : Y) → only_if test x ≡ Some y → (test ≡ true) × (x ≡ y)
+let_through true x y e = (refl, cc)
+let_through false x y e = absurd cc
+
+-- a thunk of the parts, and that it is what the rules let through
+pub made_thunk : (t : Parts) (inputs : List (List ℕ × Ref)) (outputs : List (List ℕ)) → HasRefs t → length (text_of t) ≤ max_size → keeps_numbers t ≡ true → keeps_bytes t ≡ true → keeps_orders t ≡ true
+    → only_if (list_all is_path (map (λ input. input.0) t.inputs)) t.inputs ≡ Some inputs → only_if (list_all is_path t.outputs) t.outputs ≡ Some outputs
+    → IsThunk (record { function = t.function; args = t.args; envs = t.envs; inputs = inputs; outputs = outputs })
+    × (only_if (keeps_rules t) t ≡ Some (record { function = t.function; args = t.args; envs = t.envs; inputs = inputs; outputs = outputs }))
+made_thunk t inputs outputs refs size numbers bytes orders inputs_are outputs_are =
+    let a = let_through (list_all is_path (map (λ input. input.0) t.inputs)) t.inputs inputs inputs_are in
+    let b = let_through (list_all is_path t.outputs) t.outputs outputs outputs_are in
+    let kept : keeps_rules t ≡ true = kept_rules t (record { numbers = numbers; bytes = bytes; orders = orders; inputs = a.0; outputs = b.0 }) in
+    let whole : IsThunk t × (only_if (keeps_rules t) t ≡ Some t) = (rules_from t refs size kept, rw kept refl) in
+    let with_inputs = subst (λ (v : List (List ℕ × Ref)). IsThunk (record t { inputs = v }) × (only_if (keeps_rules t) t ≡ Some (record t { inputs = v }))) a.1 whole in
+    subst (λ (v : List (List ℕ)). IsThunk (record t { inputs = inputs; outputs = v }) × (only_if (keeps_rules t) t ≡ Some (record t { inputs = inputs; outputs = v }))) b.1 with_inputs

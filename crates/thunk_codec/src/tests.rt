@@ -1,0 +1,116 @@
+use super::*;
+use object_name::{Bytes, TryCopy};
+use std::alloc::Global;
+use std::test::*;
+
+const FUNCTION: &[u8] = b"VkU_0qI-jaxktmjRiZaXqmNdWhWCmVYh8huuzG8-Zhjg0000000c";
+
+const AB: &[u8] = b"V-44g_C5MPySMYMOb1lLzwTRymLuXe4tNWQO4UFViBgM00000002";
+
+const EMPTY: &[u8] = b"V47DEQpj8HBSa-_TImW-5JCeuQeRkm5NMpJWZG3hSuFU00000000";
+
+const C: &[u8] = b"VLn0sA6lQeuJl7PW1NWiFpTOTogKdJBOUmXJloaJa78Y00000001";
+
+const OUTPUT: &[u8] = b"TIleAA7uMt28irpGXVG9w-24p1WzhEWDiO1nv5alY1w4000000ff#0";
+
+/// The text of a thunk that joins three inputs, of which these are the lines behind the function's.
+fn text_with(alloc: Global, lines: &[&[u8]]) -> Result<Bytes, Fail> {
+    let mut text = Bytes::from_slice(alloc, b"gg-thunk 1\nf ")?;
+    text.append(FUNCTION)?;
+    text.append(b"\n")?;
+    for line in lines {
+        text.append(line)?;
+    }
+    Ok(text)
+}
+
+fn cat_of_three(alloc: Global) -> Result<Bytes, Fail> {
+    text_with(
+        alloc,
+        &[
+            b"i 1:a ",
+            AB,
+            b"\ni 1:b ",
+            EMPTY,
+            b"\ni 1:c ",
+            C,
+            b"\no 3:out\nend\n",
+        ],
+    )
+}
+
+#[test]
+fn a_text_gives_its_parts(rt: HostRuntime) -> Result<(), Fail> {
+    let text = cat_of_three(rt.alloc())?;
+    assert_eq!(rt; text.len(), 255);
+    let thunk = decode(rt.alloc(), text.as_slice())?;
+    assert_eq!(rt; Some(*thunk.function()), Ref::read(FUNCTION));
+    assert_eq!(rt; thunk.args().len(), 0);
+    assert_eq!(rt; thunk.envs().len(), 0);
+    assert_eq!(rt; thunk.inputs().len(), 3);
+    let wanted = [(b"a", AB), (b"b", EMPTY), (b"c", C)];
+    for (input, (path, name)) in thunk.inputs().iter().zip(wanted) {
+        assert_eq!(rt; input.0.text(), path.as_slice());
+        assert_eq!(rt; Some(input.1), Ref::read(name));
+    }
+    assert_eq!(rt; thunk.outputs().len(), 1);
+    assert_eq!(rt; thunk.outputs()[0].text(), b"out".as_slice());
+    assert_eq!(rt; thunk.resolved_size(), 69);
+    Ok(())
+}
+
+#[test]
+fn other_texts_are_refused(rt: HostRuntime) -> Result<(), Fail> {
+    let alloc = rt.alloc();
+    let text = cat_of_three(alloc)?;
+    let mut longer = text.copy(alloc)?;
+    longer.append(b"\n")?;
+    let refused = [
+        // The inputs don't rise.
+        text_with(
+            alloc,
+            &[
+                b"i 1:b ",
+                EMPTY,
+                b"\ni 1:a ",
+                AB,
+                b"\ni 1:c ",
+                C,
+                b"\no 3:out\nend\n",
+            ],
+        )?,
+        // A length begins with a zero.
+        text_with(alloc, &[b"i 01:a ", AB, b"\no 3:out\nend\n"])?,
+        // There is no output.
+        text_with(alloc, &[b"i 1:a ", AB, b"\nend\n"])?,
+        longer,
+        Bytes::from_slice(alloc, &text.as_slice()[..text.len().saturating_sub(1)])?,
+    ];
+    for text in &refused {
+        assert!(rt; matches!(decode(alloc, text.as_slice()), Err(DecodeFault::BadThunk)));
+    }
+    Ok(())
+}
+
+#[test]
+fn paths_are_made_normal(rt: HostRuntime) -> Result<(), Fail> {
+    let path = Path::read(rt.alloc(), b"a/./b/../c/")?.ok_or("there is a path")?;
+    assert_eq!(rt; path.text(), b"a/c".as_slice());
+    let copy = path.copy(rt.alloc())?;
+    assert!(rt; copy == path);
+    for text in [b"../a".as_slice(), b"/a", b""] {
+        assert!(rt; Path::read(rt.alloc(), text)?.is_none());
+    }
+    Ok(())
+}
+
+#[test]
+fn references_are_spelled_again(rt: HostRuntime) -> Result<(), Fail> {
+    for text in [C, OUTPUT] {
+        let reference = Ref::read(text).ok_or("there is a reference")?;
+        let mut out = Bytes::new(rt.alloc());
+        reference.write(&mut out)?;
+        assert_eq!(rt; out.as_slice(), text);
+    }
+    Ok(())
+}
