@@ -1,5 +1,5 @@
 -- What is under a name in a list of pairs that is seen as a finite map, and what a put makes of it.
-use Rattle.std.proofs.Common.{◌≡◌, ℕ, List, [], ◌∷◌, ◌++◌, get_or, length, Option, Some, None, refl, sym, ap, subst, ◌∙◌}
+use Rattle.std.proofs.Common.{◌≡◌, ℕ, List, [], ◌∷◌, ◌++◌, get_or, length, Some, None, sym, ap, subst, ◌∙◌}
 use Rattle.std.specs.Prelude.{position, slice_set}
 use Rattle.std.specs.FinMap as map
 use Rattle.std.specs.FinMap.{len-empty}

@@ -1,12 +1,11 @@
 -- What a put on a keeper in memory does to the store that it tells.
-use Rattle.std.proofs.Common.{◌≡◌, ◌⊎◌, inl, ℕ, List, Option, refl, sym, ap, ◌∙◌}
+use Rattle.std.proofs.Common.{◌≡◌, ℕ, List, ap, ◌∙◌}
 use Rattle.std.specs.FinMap as map
 use Rattle.std.specs.FinMap.{get-insert}
-use Rattle.object_name.specs.Name.{ObjectName, name_cmp}
+use Rattle.object_name.specs.Name.{ObjectName}
 use Rattle.object_name.proofs.NameOrder.{name_cmp_total}
-use Rattle.blob_store.specs.Keeping.{MayWrite}
 use Rattle.blob_store.specs.Memory.{ByName, Memory, store_of, called, with_object, with_note}
-use Rattle.blob_store.specs.Store.{Store, Contents, Write, put, after_write}
+use Rattle.blob_store.specs.Store.{Store, Contents, put, after_write}
 use Rattle.blob_store.specs.Store.Write.{Object, Note}
 
 -- what a finite map has under each name

@@ -1,5 +1,5 @@
 -- Laws of stores: what is held, and what a write leaves.
-use Rattle.std.proofs.Common.{◌≡◌, ◌⊎◌, inl, inr, ℕ, Bool, true, false, cond, List, [], ◌∷◌, ◌++◌, Option, Some, None, refl, sym, ap, subst, ◌∙◌}
+use Rattle.std.proofs.Common.{◌≡◌, inl, inr, ℕ, Bool, true, false, cond, List, [], ◌∷◌, ◌++◌, Option, Some, None, refl, sym, ap, ◌∙◌}
 use Rattle.std.specs.Prelude.{bytes_eq, option_and_then, is_some}
 use Rattle.std.proofs.lemmas.Slice.Eq.{bytes_eq-Decides}
 use Rattle.object_name.specs.Name.{ObjectName, name_of, name_cmp}
@@ -7,7 +7,7 @@ use Rattle.blob_store.specs.Keeping.{MayWrite}
 use Rattle.blob_store.specs.Store.{Store, Contents, Write, put, if_named, held, after_write, written, own_write, other_held, storing}
 use Rattle.blob_store.specs.Store.Write.{Object, Note}
 use Rattle.std.specs.Ordering.{eq_by_cmp}
-use Rattle.blob_store.proofs.Names.{untrue, eq_by_cmp-name, eq_by_cmp-other, name_cmp-same}
+use Rattle.blob_store.proofs.Names.{eq_by_cmp-name, eq_by_cmp-other, name_cmp-same}
 
 -- ---- what is held
 

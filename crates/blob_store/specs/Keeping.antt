@@ -1,9 +1,8 @@
 -- What a call on a keeper, and storing an object, does to the store that the keeper tells.
-use Rattle.std.specs.Prelude.{◌≡◌, ◌⊎◌, ℕ, List, [], Option, Some, None, Result, Ok, Err, is_some, false}
+use Rattle.std.specs.Prelude.{◌≡◌, ◌⊎◌, ℕ, List, Some, None, Result, Ok, Err}
 use Rattle.object_name.specs.Name.{ObjectName, name_of}
 use Rattle.object_name.specs.Causes.{RoseBy}
 use Rattle.object_name.specs.declared.trouble.Trouble.{Trouble}
-use Rattle.object_name.specs.declared.trouble.Trouble.TheVariants as Trouble
 use Rattle.blob_store.specs.declared.storing.StoreFault.{StoreFault}
 use Rattle.blob_store.specs.declared.storing.StoreFault.TheVariants.{Clash, Failed, Memory}
 use Rattle.blob_store.specs.Store.{Store, Write, written, after_write, held, other_held, own_write, storing}

@@ -1,5 +1,5 @@
 -- A keeper in memory: its two finite maps, the calls on it and the puts that were made.
-use Rattle.std.specs.Prelude.{◌≡◌, ℕ, List, ◌∷◌, [], ◌++◌, fold, refl}
+use Rattle.std.specs.Prelude.{ℕ, List, ◌∷◌, [], ◌++◌, fold, refl}
 use Rattle.std.specs.Coded.{Coded, code_by, coded×, coded_list, coded_ℕ}
 use Rattle.std.specs.FinMap as map
 use Rattle.object_name.specs.Name.{ObjectName, name_cmp}

@@ -1,5 +1,5 @@
 -- A store: two maps from names to bytes, one of objects and one of notes.
-use Rattle.std.specs.Prelude.{ℕ, List, [], ◌∷◌, Bool, Option, Some, None, is_some, bytes_eq, option_and_then, if◌then◌else◌}
+use Rattle.std.specs.Prelude.{ℕ, List, [], ◌∷◌, Option, Some, None, is_some, bytes_eq, option_and_then, if◌then◌else◌}
 use Rattle.std.specs.Ordering.{eq_by_cmp}
 use Rattle.object_name.specs.Name.{ObjectName, name_of, name_cmp}
 

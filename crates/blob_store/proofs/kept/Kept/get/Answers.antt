@@ -1,7 +1,4 @@
-use Rattle.std.proofs.Common.{◌≡◌, List, Some, None, get_or, refl, sym, ap, ◌∙◌}
-use Rattle.std.specs.FinMap as map
-use Rattle.object_name.specs.Name.{name_cmp}
-use Rattle.object_name.proofs.NameOrder.{name_cmp_total, name_cmp-IsAntisymmetric}
+use Rattle.std.proofs.Common.{◌∙◌}
 use Rattle.blob_store.proofs.KeptLemmas.{get_found, get_none}
 use Rattle.blob_store.proofs.kept.Kept.get.Goals as goal
 
