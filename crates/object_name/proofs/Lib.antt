@@ -4,3 +4,4 @@ pub mod NumberLemmas
 pub mod NameOrder
 pub mod StreamLemmas
 pub mod SpellingBytes
+pub mod CallLemmas

@@ -4,3 +4,5 @@ pub mod Name
 pub mod NameCode
 pub mod Causes
 pub mod Streams
+pub mod ReadEnd
+pub mod Calls

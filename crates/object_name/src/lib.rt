@@ -2,23 +2,35 @@
 #![tactic(auto)]
 
 mod bytes;
+mod calls;
 mod kind;
 pub mod laws;
 mod many;
 mod mem_sink;
+mod mem_source;
 mod name;
 mod number;
+mod read_source;
 mod sink;
+mod source;
 mod spelling;
+#[cfg(test)]
+mod tests;
 mod trouble;
 mod try_copy;
+mod write_sink;
 
 pub use bytes::Bytes;
+pub use calls::Calls;
 pub use kind::{Kind, kind_of};
 pub use many::Many;
 pub use mem_sink::MemSink;
+pub use mem_source::MemSource;
 pub use name::{Name, TooLong, name_of};
 pub use number::{read_number, write_number};
+pub use read_source::ReadSource;
 pub use sink::{Sink, write_all};
+pub use source::{ReadEnd, Source, read_all};
 pub use trouble::Trouble;
 pub use try_copy::TryCopy;
+pub use write_sink::WriteSink;

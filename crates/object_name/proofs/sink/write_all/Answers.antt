@@ -1,4 +1,4 @@
-use Rattle.std.proofs.Common.{◌≤◌, arith}
+use Rattle.std.proofs.Common.{arith}
 use Rattle.object_name.proofs.StreamLemmas.{appends_more, front_kept, piece_within}
 use Rattle.object_name.proofs.sink.write_all.Goals as goal
 

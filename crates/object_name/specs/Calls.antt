@@ -1,0 +1,30 @@
+-- Objects in memory, of which the calls with listed numbers fail. Calls are numbered from 1.
+use Rattle.std.specs.Prelude.{ℕ, ◌+◌, ◌-◌, ◌^◌, ◌==◌, min, Bool, if◌then◌else◌, List}
+use Rattle.std.specs.List.{list_any}
+
+-- the numbers of the calls that are to fail, how many calls were made, and how many of them failed
+pub record CallList : Type 0 where
+  pub failing : List ℕ
+  pub count : ℕ
+  pub faults : ℕ
+
+-- one more, or the last value of a count of 64 bits
+abbrev pub risen : ℕ → ℕ
+risen count = min (count + 1) (2 ^ 64 - 1)
+
+-- the next call is to fail
+abbrev pub fails_next : CallList → Bool
+fails_next calls = list_any (λ number. number == calls.count + 1) calls.failing
+
+-- what the next call leaves
+abbrev pub after_call : CallList → CallList
+after_call calls = record {
+  failing = calls.failing;
+  count = risen calls.count;
+  faults = if fails_next calls then risen calls.faults else calls.faults;
+}
+
+-- bytes that are left to read or were written, and the calls
+pub record MemBytes : Type 0 where
+  pub content : List ℕ
+  pub calls : CallList
