@@ -1,6 +1,6 @@
 //! A keeper in a folder.
 
-ghost use Rattle.std.specs.Prelude.{None};
+ghost use Rattle.std.specs.Prelude.{◌≡◌, None, IfOk};
 ghost use Rattle.object_name.specs.Causes.{HasCause};
 
 use crate::files::{read_file, write_file};
@@ -27,6 +27,7 @@ impl<R: Files> FolderKeeper<R> {
     pub fn new(alloc: Global, files: R, root: &str) -> Result<Self, AllocError>
     where
         R: Drop,
+        ensures { IfOk result (λ k. ⟦<FolderKeeper<R> as Keeper>⟧.faults k ≡ 0) }
     {
         Ok(FolderKeeper {
             alloc,
@@ -38,7 +39,9 @@ impl<R: Files> FolderKeeper<R> {
     }
 
     /// How often a call has failed. The count stands still at its last value.
-    pub fn faults(&self) -> u64 {
+    pub fn faults(&self) -> u64
+        ensures { result ≡ ⟦<FolderKeeper<R> as Keeper>⟧.faults self.now }
+    {
         self.faults
     }
 
