@@ -7,6 +7,8 @@ mod fault;
 mod gathering;
 pub mod laws;
 mod reading;
+#[cfg(test)]
+mod tests;
 mod writing;
 
 pub use evaluating::{Values, evaluate};
