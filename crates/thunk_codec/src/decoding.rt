@@ -12,10 +12,8 @@ use crate::in_place::{inputs_as_are, paths_as_are};
 use crate::parts::{RawParts, parts_at};
 use crate::rules::{keeps_bytes, keeps_numbers, keeps_orders};
 use crate::thunk::Thunk;
+use object_name::MAX_SIZE;
 use std::alloc::{AllocError, AllocFailed, Global};
-
-/// The greatest length of a thunk's text, in bytes.
-const MAX_SIZE: u32 = 16_777_216;
 
 /// Why there is no thunk.
 #[derive(Clone, Copy, Debug, PartialEq, Eq)]

@@ -1,5 +1,5 @@
 use super::*;
-use object_name::{Bytes, TryCopy};
+use object_name::{Bytes, Many, TryCopy};
 use std::alloc::Global;
 use std::test::*;
 
@@ -110,6 +110,24 @@ fn paths_are_made_normal(rt: HostRuntime) -> Result<(), Fail> {
     for text in [b"../a".as_slice(), b"/a", b""] {
         assert!(rt; Path::read(rt.alloc(), text)?.is_none());
     }
+    Ok(())
+}
+
+#[test]
+fn copies_are_made(rt: HostRuntime) -> Result<(), Fail> {
+    let alloc = rt.alloc();
+    let text = cat_of_three(alloc)?;
+    let thunk = decode(alloc, text.as_slice())?;
+    assert_eq!(rt; thunk.copy(alloc)?.inputs().len(), 3);
+    let job = Job {
+        function: text,
+        args: Many::new(alloc),
+        envs: Many::new(alloc),
+        inputs: Many::new(alloc),
+        outputs: Many::new(alloc),
+    };
+    assert_eq!(rt; job.copy(alloc)?.function.len(), 255);
+    assert!(rt; matches!(Outcome::Failed(3).copy(alloc)?, Outcome::Failed(3)));
     Ok(())
 }
 
