@@ -28,12 +28,6 @@ behind_takes mark bytes rest e =
     let front : mark ≡ take (length mark) bytes = (bytes_eq-Decides mark (take (length mark) bytes)).0 a.0 in
     sym (take-append-drop (length mark) bytes) ∙ ap (λ (v : List ℕ). v ++ drop (length mark) bytes) (sym front) ∙ ap (λ (v : List ℕ). mark ++ v) (same_Some _ rest a.1)
 
-starts_again : (mark rest : List ℕ) → starts_with nat_eq (mark ++ rest) mark ≡ true
-starts_again mark rest = (bytes_eq-Decides mark (take (length mark) (mark ++ rest))).1 (sym (take_at mark rest (length mark) refl))
-
-pub behind_again : (mark rest : List ℕ) → behind mark (mark ++ rest) ≡ Some rest
-behind_again mark rest = rw (starts_again mark rest, drop_at mark rest (length mark) refl) refl
-
 -- ---- up to a byte
 
 -- no byte is the stop

@@ -19,16 +19,9 @@ pub record Going {A : Type 0} (letter : ℕ) (said_at : List ℕ → Option (A �
   pub room : length rest ≤ most
   pub goes_on : with_front front (lines_at letter said_at most rest) ≡ all_lines_at letter said_at bytes
 
-with_front-nil : {A : Type 0} (read : Option (List A × List ℕ)) → with_front [] read ≡ read
-with_front-nil (Some x) = refl
-with_front-nil None = refl
-
 with_front-more : {A : Type 0} (front : List A) (x : A) (read : Option (List A × List ℕ)) → with_front front (read >>= λ others. Some (x ∷ others.0, others.1)) ≡ with_front (front ++ x ∷ []) read
 with_front-more front x (Some others) = ap (λ (v : List _). Some (v, others.1)) (sym (append_assoc front (x ∷ []) others.0))
 with_front-more front x None = refl
-
-pub going_none : {A : Type 0} (letter : ℕ) (said_at : List ℕ → Option (A × List ℕ)) (bytes : List ℕ) → Going letter said_at bytes [] bytes
-going_none letter said_at bytes = record { most = length bytes; room = omega arith; goes_on = with_front-nil (lines_at letter said_at (length bytes) bytes) }
 
 -- a line takes a byte at least
 line_is_longer : {A : Type 0} {said_at : List ℕ → Option (A × List ℕ)} {said : A → List ℕ} {P Q : A → Type 0} (reader : IsReader said_at said P Q) (letter : ℕ) (rest : List ℕ) (x : A) (after : List ℕ)

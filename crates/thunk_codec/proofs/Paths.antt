@@ -1,8 +1,8 @@
 -- Normal paths are read as they stand.
 use Rattle.std.proofs.Common.{◌≡◌, ℕ, suc, ◌+◌, ◌<◌, ◌≤◌, Bool, true, false, not, leb, ◌&&◌, ◌||◌, List, [], ◌∷◌, ◌++◌, ◌-◌, length, reverse, take, drop, get_or, length-append, Option, Some, None, refl, sym, ap, subst, ◌∙◌, arith, append_assoc, inl, inr}
 use Rattle.std.specs.Prelude.{MatchOption, codes, bytes_eq}
-use Rattle.std.specs.List.{list_all, join_with_byte, onto_first, All, AllByRecursion, before_last, suffix_len, prefix_len}
-use Rattle.std.proofs.lemmas.List.{reverse-reverse, reverse-append, take-append-drop, drop_more, length-take, get_or-take, take_at, take-append-le, length_push, get_or-append_right, get_or_at, take_rest}
+use Rattle.std.specs.List.{list_all, join_with_byte, onto_first, All, AllByRecursion, before_last, suffix_len}
+use Rattle.std.proofs.lemmas.List.{reverse-reverse, take-append-drop, drop_more, length-take, get_or-take, take_at, get_or-append_right, get_or_at, take_rest}
 use Rattle.std.proofs.lemmas.List.Sums.{suffix_len_is}
 use Rattle.std.proofs.lemmas.Grind.{reverse_onto}
 use Rattle.std.proofs.lemmas.List.Elements.{All-from_recursion, All-from_get_or}
@@ -197,18 +197,6 @@ pieces_of-at text i lt slash before =
 -- a text without slashes is one piece
 pub pieces_of-none : (text : List ℕ) → ((k : ℕ) → k < length text → get_or text k 0 ≡ 47 → ⊥) → pieces_of text ≡ text ∷ []
 pieces_of-none text none = slice_split_none is_slash text (All-from_get_or (λ byte. is_slash byte ≡ false) text 0 (λ k h. ne_eqb _ _ (none k h)))
-
--- what stands before the last slash, one byte after another from the end
-pub before_last_slash : (front : List ℕ) → before_last is_slash (front ++ 47 ∷ []) ≡ front
-before_last_slash front =
-    let n : suffix_len (λ x. not (is_slash x)) (front ++ 47 ∷ []) ≡ 0 = ap (prefix_len (λ x. not (is_slash x))) (reverse-append front (47 ∷ [])) in
-    rw n (take_at front (47 ∷ []) _ (omega (arith, length_push front 47)))
-
-pub before_last_other : (front : List ℕ) (byte : ℕ) → (byte ≡ 47 → ⊥) → before_last is_slash (front ++ byte ∷ []) ≡ before_last is_slash front
-before_last_other front byte other =
-    let n : suffix_len (λ x. not (is_slash x)) (front ++ byte ∷ []) ≡ 1 + suffix_len (λ x. not (is_slash x)) front = ap (prefix_len (λ x. not (is_slash x))) (reverse-append front (byte ∷ [])) ∙ rw (ne_eqb byte 47 other) refl in
-    let at : length (front ++ byte ∷ []) - suffix_len (λ x. not (is_slash x)) (front ++ byte ∷ []) - 1 ≡ length front - suffix_len (λ x. not (is_slash x)) front - 1 = omega (arith, n, length_push front byte) in
-    rw at (take-append-le _ front (byte ∷ []) (omega arith))
 
 plain_at : (piece : List ℕ) (k : ℕ) → is_plain piece ≡ true → k < length piece → is_slash (get_or piece k 0) ≡ false
 plain_at piece k h lt = no_slash_all piece h k 0 lt

@@ -1,12 +1,19 @@
-//! Laws of references, thunks and jobs that no single call shows.
+//! Laws of paths, references, thunks and jobs that no single call shows.
 
-ghost use Rattle.std.specs.Prelude.{◌≡◌, ◌↔◌, ◌++◌, [], List, ℕ, Some, length, map};
+ghost use Rattle.std.specs.Prelude.{IsTrue, ◌≡◌, ◌↔◌, ◌++◌, [], List, ℕ, Some, length, map};
 ghost use Rattle.thunk_codec.specs.declared.job.Job.{Job};
 ghost use Rattle.thunk_codec.specs.declared.reference.Ref.{Ref};
+ghost use Rattle.thunk_codec.specs.Path.{path_of, is_path};
 ghost use Rattle.thunk_codec.specs.Reference.{IsRef, ref_text, ref_of};
 ghost use Rattle.thunk_codec.specs.Thunk.{Parts, Text};
 ghost use Rattle.thunk_codec.specs.Reading.{thunk_of};
 ghost use Rattle.thunk_codec.specs.Job.{job_size, size_by_lengths};
+
+/// A normal path is its own normal path, and the normal path of a text is one.
+pub fn paths_stand()
+    ensures again { (path : List ℕ) → IsTrue (is_path path) → path_of path ≡ Some path }
+    ensures normal { (text : List ℕ) (path : List ℕ) → path_of text ≡ Some path → IsTrue (is_path path) }
+{}
 
 /// Two references with one text are one reference.
 pub fn one_ref_text()
