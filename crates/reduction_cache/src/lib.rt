@@ -1,0 +1,8 @@
+//! Notes of what was reduced before.
+#![tactic(auto)]
+
+mod knowing;
+mod note;
+
+pub use knowing::{hit, keep_note};
+pub use note::{encode_note, read_note};
