@@ -2,6 +2,7 @@
 #![tactic(auto)]
 
 mod knowing;
+pub mod laws;
 mod note;
 
 pub use knowing::{hit, keep_note};
