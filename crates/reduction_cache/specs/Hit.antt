@@ -1,5 +1,5 @@
 -- What a store knows of a reduction: a note for it with so many outputs, all of them held.
-use Rattle.std.specs.Prelude.{ℕ, List, length, ◌==◌, Bool, Option, Some, None, is_some}
+use Rattle.std.specs.Prelude.{ℕ, List, length, ◌==◌, Bool, Option, Some, is_some}
 use Rattle.std.specs.List.{list_all}
 use Rattle.std.specs.Ordering.{eq_by_cmp}
 use Rattle.object_name.specs.Name.{ObjectName, name_cmp}

@@ -1,5 +1,5 @@
 -- Reading a note from its front, as a total function.
-use Rattle.std.specs.Prelude.{ℕ, zero, suc, List, [], ◌∷◌, take, drop, length, nat_eq, nat_le, ◌==◌, Option, Some, None, bytes_eq, if◌then◌else◌}
+use Rattle.std.specs.Prelude.{ℕ, zero, suc, List, [], ◌∷◌, take, drop, length, nat_eq, nat_le, Option, Some, bytes_eq, if◌then◌else◌}
 use Rattle.std.specs.List.{starts_with}
 use Rattle.object_name.specs.Name.{ObjectName, named_by}
 use Rattle.thunk_codec.specs.Maybe.{◌>>=◌, ◌>>◌, check}
