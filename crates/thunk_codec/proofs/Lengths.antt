@@ -1,7 +1,8 @@
 -- How long the encoding of a thunk's job is, and that the length is small.
-use Rattle.std.proofs.Common.{◌≡◌, ℕ, ◌+◌, ◌*◌, ◌^◌, ◌<◌, ◌≤◌, List, [], ◌∷◌, ◌++◌, length, map, refl, ap, ◌∙◌, arith, length-append, rules}
+use Rattle.std.proofs.Common.{◌≡◌, ℕ, ◌+◌, ◌*◌, ◌^◌, ◌<◌, ◌≤◌, List, [], ◌∷◌, ◌++◌, length, map, refl, sym, ap, subst, ◌∙◌, arith, length-append, rules}
 use Rattle.std.specs.Prelude.{sum_by}
 use Rattle.std.specs.List.{flat_map, AllByRecursion}
+use Rattle.std.proofs.lemmas.List.{length-map}
 use Rattle.std.proofs.lemmas.List.Sums.{sum_by-cons, sum_by-le-sum_by}
 use Rattle.std.proofs.lemmas.List.Concat.{flat_map-cons, length-flat_map}
 use Rattle.object_name.specs.Name.{max_size}
@@ -10,6 +11,7 @@ use Rattle.thunk_codec.specs.declared.reference.Ref.{Ref}
 use Rattle.thunk_codec.specs.declared.reference.Ref.TheVariants.{Value, Out}
 use Rattle.thunk_codec.specs.Reference.{IsRef}
 use Rattle.thunk_codec.specs.Thunk.{Parts, IsThunk, text_of, line, counted, arg_line, env_line, input_line, output_line}
+use Rattle.thunk_codec.specs.Resolved.{OfThunk, HaveObjectLengths}
 use Rattle.thunk_codec.specs.Job.{string, string_pair, job_encoding, job_size, size_by_lengths, resolved_size, ref_name}
 
 -- sums of terms that are equal one by one
@@ -114,3 +116,58 @@ pub resolved_size_is : (t : Parts) → resolved_size t ≡ 20 + (ref_name t.func
     + sum_by (λ output. 4 + length output) t.outputs
 unfolding resolved_size size_by_lengths
 resolved_size_is t = rw (sum_by-map (λ (input : List ℕ × ℕ). 8 + length input.0 + input.1) (λ (input : List ℕ × Ref). (input.0, (ref_name input.1).size)) t.inputs) refl
+
+-- ---- the sums of a job by the lengths of its objects are small
+
+-- the lengths of the objects, apart from those of the paths
+path_sum : (lengths : List (List ℕ × ℕ)) → HaveObjectLengths lengths
+    → sum_by (λ input. 8 + length input.0 + input.1) lengths ≤ sum_by (λ path. 8 + length path) (map (λ input. input.0) lengths) + length lengths * 16777216
+path_sum [] h = omega arith
+path_sum (input ∷ lengths) h =
+    let whole = sum_by-cons (λ (i : List ℕ × ℕ). 8 + length i.0 + i.1) input lengths in
+    let paths = sum_by-cons (λ (path : List ℕ). 8 + length path) input.0 (map (λ i. i.0) lengths) in
+    omega (arith, whole, paths, h.0, path_sum lengths h.1)
+
+line_paths : (inputs : List (List ℕ × Ref)) → sum_by (λ path. 8 + length path) (map (λ input. input.0) inputs) ≤ length (flat_map input_line inputs) + length inputs * 3
+line_paths [] = omega arith
+line_paths (input ∷ inputs) =
+    let paths = sum_by-cons (λ (path : List ℕ). 8 + length path) input.0 (map (λ i. i.0) inputs) in
+    let lines = ap length (flat_map-cons input_line input inputs) ∙ length-append (input_line input) (flat_map input_line inputs) in
+    omega (arith, paths, lines, length-input_line input, line_paths inputs)
+
+-- the sums of which a job's length is made are small
+pub record IsSmallJob (args : List (List ℕ)) (envs : List (List ℕ × List ℕ)) (inputs : List (List ℕ × ℕ)) (outputs : List (List ℕ)) : Type 0 where
+  pub small_args : sum_by (λ arg. 4 + length arg) args < 2 ^ 36
+  pub small_envs : sum_by (λ env. 8 + length env.0 + length env.1) envs < 2 ^ 36
+  pub small_inputs : sum_by (λ input. 8 + length input.0 + input.1) inputs < 2 ^ 37
+  pub small_outputs : sum_by (λ output. 4 + length output) outputs < 2 ^ 36
+
+pub job_is_small : (args : List (List ℕ)) (envs : List (List ℕ × List ℕ)) (inputs : List (List ℕ × ℕ)) (outputs : List (List ℕ))
+    → HaveObjectLengths inputs → OfThunk args envs (map (λ input. input.0) inputs) outputs → IsSmallJob args envs inputs outputs
+unfolding text_of
+job_is_small args envs inputs outputs objects parts =
+    let t = parts.thunk in
+    let whole = simp length-append at parts.rules.size in
+    let count : length inputs ≡ length t.inputs = sym (length-map inputs (λ (i : List ℕ × ℕ). i.0)) ∙ ap length (sym parts.same_paths) ∙ length-map t.inputs (λ (i : List ℕ × Ref). i.0) in
+    let paths : sum_by (λ path. 8 + length path) (map (λ input. input.0) inputs) ≤ length (flat_map input_line t.inputs) + length t.inputs * 3 =
+    subst (λ (v : List (List ℕ)). sum_by (λ path. 8 + length path) v ≤ length (flat_map input_line t.inputs) + length t.inputs * 3) parts.same_paths (line_paths t.inputs) in
+    record {
+      small_args = subst (λ (v : List (List ℕ)). sum_by (λ arg. 4 + length arg) v < 2 ^ 36) parts.same_args (omega (arith, whole, line_args t.args));
+      small_envs = subst (λ (v : List (List ℕ × List ℕ)). sum_by (λ env. 8 + length env.0 + length env.1) v < 2 ^ 36) parts.same_envs (omega (arith, whole, line_envs t.envs));
+      small_inputs = omega (arith, whole, path_sum inputs objects, paths, count, parts.rules.few_inputs);
+      small_outputs = subst (λ (v : List (List ℕ)). sum_by (λ output. 4 + length output) v < 2 ^ 36) parts.same_outputs (omega (arith, whole, line_outputs t.outputs));
+    }
+
+-- so the length is, too
+pub jobs_are_short : (function : ℕ) (args : List (List ℕ)) (envs : List (List ℕ × List ℕ)) (inputs : List (List ℕ × ℕ)) (outputs : List (List ℕ))
+    → function ≤ max_size → HaveObjectLengths inputs → OfThunk args envs (map (λ input. input.0) inputs) outputs → size_by_lengths function args envs inputs outputs < 2 ^ 40
+unfolding size_by_lengths
+jobs_are_short function args envs inputs outputs small objects parts =
+    let job = job_is_small args envs inputs outputs objects parts in
+    omega (arith, small, job.small_args, job.small_envs, job.small_inputs, job.small_outputs)
+
+pub size_by_lengths_is : (function : ℕ) (args : List (List ℕ)) (envs : List (List ℕ × List ℕ)) (inputs : List (List ℕ × ℕ)) (outputs : List (List ℕ))
+    → size_by_lengths function args envs inputs outputs ≡ 20 + function + sum_by (λ arg. 4 + length arg) args + sum_by (λ env. 8 + length env.0 + length env.1) envs
+    + sum_by (λ input. 8 + length input.0 + input.1) inputs + sum_by (λ output. 4 + length output) outputs
+unfolding size_by_lengths
+size_by_lengths_is function args envs inputs outputs = refl

@@ -8,3 +8,4 @@ pub mod Job
 pub mod Outcome
 pub mod Gives
 pub mod Raw
+pub mod Resolved

@@ -2,25 +2,33 @@
 #![tactic(auto)]
 
 mod decoding;
+mod encoding;
 mod function;
 mod in_place;
 mod job;
+mod job_length;
 pub mod laws;
 mod lines;
+mod making;
 mod normal;
 mod parts;
 mod path;
 mod reading;
 mod reference;
 mod resolved;
+mod resolving;
 mod rules;
 mod thunk;
 
 pub use decoding::{DecodeFault, decode};
+pub use encoding::encode;
 pub use function::{Function, Runner};
 pub use job::{Job, Outcome};
+pub use job_length::job_len;
+pub use making::MakeFault;
 pub use path::Path;
 pub use reference::Ref;
+pub use resolving::resolve;
 pub use thunk::Thunk;
 
 #[cfg(test)]

@@ -46,6 +46,19 @@ pub fn inputs_size(inputs: &[(Path, Ref)]) -> u64
     size
 }
 
+/// The lengths of some paths and of the objects that stand there, which are given, as strings.
+pub fn lengths_size(inputs: &[(Path, u64)]) -> u64
+    requires { sum_by (λ input. 8 + length input.0 + input.1) inputs.now < 2 ^ 40 }
+    ensures sum { result ≡ sum_by (λ input. 8 + length input.0 + input.1) inputs.now }
+    ensures small { result < 2 ^ 40 }
+{
+    let mut size = 0;
+    for (path, len) in inputs {
+        size += 8 + path.text().len() as u64 + *len;
+    }
+    size
+}
+
 /// The lengths of some paths as strings.
 pub fn outputs_size(outputs: &[Path]) -> u64
     requires { sum_by (λ output. 4 + length output) outputs.now < 2 ^ 40 }
