@@ -1,28 +1,30 @@
 -- Evaluations: they read and change a state, and give something or stop.
-use Rattle.std.specs.Prelude.{ℕ, suc, List, [], ◌∷◌, ◌++◌, Bool, true, false, Option, Some, None}
-use Rattle.object_name.specs.Name.{ObjectName}
+use Rattle.std.specs.Prelude.{ℕ, suc, List, [], ◌∷◌, ◌++◌, Bool, true, false, Option, Some, None, if◌then◌else◌}
+use Rattle.std.specs.Ordering.{eq_by_cmp}
+use Rattle.object_name.specs.Name.{ObjectName, name_cmp}
 use Rattle.thunk_codec.specs.declared.job.Job.{Job}
 use Rattle.blob_store.specs.Store.{Store, Write, after_write}
 use Rattle.need_eval.specs.declared.fault.Refusal.{Refusal}
 
--- the store, the steps used, the writes made, in order, and the jobs whose outcome was asked for, in order
+-- the store, the outputs of the thunks reduced so far, the steps used, the writes made, in order, and the jobs whose outcome was
+-- asked for, in order
 pub record State : Type 0 where
   pub store : Store
+  pub reduced : ObjectName → Option (List ObjectName)
   pub steps : ℕ
   pub writes : List Write
   pub asked : List Job
 
 -- the state at the start
 abbrev pub start : Store → State
-start store = record { store = store; steps = 0; writes = []; asked = [] }
+start store = record { store = store; reduced = λ name. None; steps = 0; writes = []; asked = [] }
 
--- why an evaluation stops: what was wanted is refused; it isn't built yet; two objects have one name; or no outcome of this
--- job is there yet
+-- why an evaluation stops: what was wanted is refused; two objects have one name; or no outcome of this job is there yet, and
+-- this is the resolved text of its thunk
 pub data Stop : Type 0 where
   Refused : Refusal → Stop
-  NotBuilt : ObjectName → Stop
   Clash : ObjectName → List ℕ → List ℕ → Stop
-  Stands : Job → Stop
+  Stands : List ℕ → Job → Stop
 
 pub data Ended (A : Type 0) : Type 0 where
   Got : A → State → Ended A
@@ -83,3 +85,7 @@ make_write write = λ s. Got tt (record s { store = after_write s.store write; w
 -- one job more whose outcome was asked for
 abbrev pub note_asked : Job → Eval (Unit {0})
 note_asked job = λ s. Got tt (record s { asked = s.asked ++ job ∷ [] })
+
+-- one thunk more is reduced, and these are its outputs
+abbrev pub mark : ObjectName → List ObjectName → Eval (Unit {0})
+mark name outputs = λ s. Got tt (record s { reduced = λ other. if eq_by_cmp name_cmp name other then Some outputs else s.reduced other })

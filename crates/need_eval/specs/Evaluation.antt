@@ -1,8 +1,5 @@
 -- Evaluation by need: the value of a reference, from a store, under a budget of steps.
---
--- So far a thunk whose function or input is an output of another thunk, one whose job is over the limit, and one whose wanted
--- output is a thunk are not built.
-use Rattle.std.specs.Prelude.{ℕ, List, [], ◌∷◌, length, map, slice_get, unwrap_or, nat_lt, nat_le, Option, Some, None}
+use Rattle.std.specs.Prelude.{ℕ, zero, suc, List, [], ◌∷◌, length, map, slice_get, nat_lt, nat_le, Option, Some, None}
 use Rattle.object_name.specs.declared.kind.Kind.{Kind}
 use Rattle.object_name.specs.declared.kind.Kind.TheVariants as kinds
 use Rattle.object_name.specs.Name.{ObjectName, name_of}
@@ -11,32 +8,45 @@ use Rattle.thunk_codec.specs.declared.reference.Ref.TheVariants.{Value, Out}
 use Rattle.thunk_codec.specs.declared.job.Job.{Job}
 use Rattle.thunk_codec.specs.declared.job.Outcome.{Outcome}
 use Rattle.thunk_codec.specs.declared.job.Outcome.TheVariants.{Done, Failed}
-use Rattle.thunk_codec.specs.Thunk.{Parts}
+use Rattle.thunk_codec.specs.Thunk.{Parts, text_of}
 use Rattle.thunk_codec.specs.Reading.{thunk_of}
-use Rattle.thunk_codec.specs.Job.{job_size, max_job}
-use Rattle.blob_store.specs.Store.{Store, held, other_held, storing}
-use Rattle.need_eval.specs.declared.fault.Refusal.TheVariants.{Missing, BadThunk, NoOutput, Spent, FunctionFailed}
-use Rattle.need_eval.specs.Eval.{Refused, NotBuilt, Clash, Stands, Eval, ◌>>=◌, ◌>>◌, give, stop, current, check, need, each, step, make_write, note_asked}
+use Rattle.thunk_codec.specs.Resolved.{refs_of, resolved_by}
+use Rattle.thunk_codec.specs.Job.{ref_name, resolved_size, max_job}
+use Rattle.blob_store.specs.Store.{held, other_held, storing}
+use Rattle.reduction_cache.specs.Hit.{hit_of, note_write}
+use Rattle.need_eval.specs.declared.fault.Refusal.TheVariants.{Missing, BadThunk, NoOutput, Spent, TooBig, FunctionFailed}
+use Rattle.need_eval.specs.Eval.{Refused, Clash, Stands, Eval, ◌>>=◌, ◌>>◌, give, stop, current, check, need, each, step, make_write, note_asked, mark}
 
--- the bytes of an object
-abbrev pub bytes_of : Store → ObjectName → List ℕ
-bytes_of store name = unwrap_or (held store.objects name) []
+-- the bytes of an object that is held
+abbrev pub object : ObjectName → Eval (List ℕ)
+object name = do
+  s ← current
+  need (held s.store.objects name) (Refused (Missing name))
 
--- the paths of the inputs, with the bytes of their values
-abbrev pub inputs_with : Store → List (List ℕ × Ref) → List ObjectName → List (List ℕ × List ℕ)
-inputs_with store [] values = []
-inputs_with store (input ∷ inputs) [] = []
-inputs_with store (input ∷ inputs) (value ∷ values) = (input.0, bytes_of store value) ∷ inputs_with store inputs values
+-- the name of a value that is held
+abbrev pub held_value : ObjectName → Eval ObjectName
+held_value name = do
+  object name
+  give name
 
--- the job of a thunk, by the values of its function and inputs
-abbrev pub job_of : Store → Parts → ObjectName → List ObjectName → Job
-job_of store t function values = record {
-  function = bytes_of store function;
-  args = t.args;
-  envs = t.envs;
-  inputs = inputs_with store t.inputs values;
-  outputs = t.outputs;
-}
+-- the parts of a thunk that is held
+abbrev pub thunk_at : ObjectName → Eval Parts
+thunk_at name = do
+  bytes ← object name
+  need (thunk_of bytes) (Refused (BadThunk name))
+
+-- the path of an input, with the bytes of its value
+abbrev pub input_object : List ℕ × Ref → Eval (List ℕ × List ℕ)
+input_object input = do
+  bytes ← object (ref_name input.1)
+  give (input.0, bytes)
+
+-- the job of a thunk whose REFs are all values
+abbrev pub job_of : Parts → Eval Job
+job_of t = do
+  function ← object (ref_name t.function)
+  inputs ← each input_object t.inputs
+  give (record { function = function; args = t.args; envs = t.envs; inputs = inputs; outputs = t.outputs })
 
 -- stops where other bytes are held under the name of these
 abbrev pub no_clash : List ℕ → Option (List ℕ) → Eval (Unit {0})
@@ -51,51 +61,46 @@ store_one bytes = do
   each make_write (storing s.store bytes)
   give (name_of bytes)
 
--- the bytes of an object that is held
-abbrev pub object : ObjectName → Eval (List ℕ)
-object name = do
-  s ← current
-  need (held s.store.objects name) (Refused (Missing name))
-
--- the parts of a thunk that is held
-abbrev pub thunk_at : ObjectName → Eval Parts
-thunk_at name = do
-  bytes ← object name
-  need (thunk_of bytes) (Refused (BadThunk name))
-
--- the name of a value that is held
-abbrev pub held_value : ObjectName → Eval ObjectName
-held_value name = do
-  object name
-  give name
-
--- the value of a reference of the wanted thunk
-abbrev pub value_in : ObjectName → Ref → Eval ObjectName
-value_in wanted (Value name) = held_value name
-value_in wanted (Out name index) = stop (NotBuilt wanted)
-
--- the job of a wanted thunk, where its function and inputs are there
-abbrev pub resolved : ObjectName → Parts → Eval Job
-resolved wanted t = do
-  function ← value_in wanted t.function
-  values ← each (value_in wanted) (map (λ input. input.1) t.inputs)
-  s ← current
-  let job = job_of s.store t function values in do
-    check (nat_le (job_size job) max_job) (NotBuilt wanted)
-    give job
-
 -- the names of the outputs, which are written
 abbrev pub outputs_by : ObjectName → Outcome → Eval (List ObjectName)
 outputs_by name (Done outputs) = each store_one outputs
 outputs_by name (Failed status) = stop (Refused (FunctionFailed name status))
 
--- an output, where it is a value
-abbrev pub value_output : ObjectName → Kind → ObjectName → Eval ObjectName
-value_output wanted kinds.Value output = give output
-value_output wanted kinds.Thunk output = stop (NotBuilt wanted)
+-- the outputs of a resolved thunk by the outcome of its job: they are written, and then a note
+abbrev pub finished : ObjectName → Parts → Outcome → Eval (List ObjectName)
+finished name t outcome = do
+  outputs ← outputs_by name outcome
+  make_write (note_write (name_of (text_of t)) outputs)
+  give outputs
+
+module _ (answer : ℕ → Job → Option Outcome) where
+  -- the outcome of a job
+  abbrev pub ask : List ℕ → Job → Eval Outcome
+  ask text job = do
+    s ← current
+    outcome ← need (answer (length s.asked) job) (Stands text job)
+    note_asked job
+    give outcome
+
+  -- the outputs of a resolved thunk: those that its note has, or those of its function
+  abbrev pub outputs_of : ObjectName → Parts → Option (List ObjectName) → Eval (List ObjectName)
+  outputs_of name t (Some outputs) = give outputs
+  outputs_of name t None = do
+    job ← job_of t
+    outcome ← ask (text_of t) job
+    finished name t outcome
+
+  -- the outputs of a thunk, by its resolved one
+  unfoldable pub reduce : ObjectName → Parts → Eval (List ObjectName)
+  reduce name t = do
+    check (nat_le (resolved_size t) max_job) (Refused (TooBig name (resolved_size t)))
+    s ← current
+    outputs ← outputs_of name t (hit_of s.store (name_of (text_of t)) (length t.outputs))
+    mark name outputs
+    give outputs
 
 module _ (budget : ℕ) where
-  -- one step for the entry into a thunk, where the budget has one left
+  -- one step for the entry into a thunk, or the passage to it, where the budget has one left
   abbrev pub count : ObjectName → Eval (Unit {0})
   count name = do
     s ← current
@@ -103,41 +108,56 @@ module _ (budget : ℕ) where
     step
 
   -- the entry into a thunk of which an output is wanted
-  abbrev pub entered : ObjectName → ℕ → Parts → Eval (Unit {0})
-  entered name index t = do
+  abbrev pub entered : ObjectName → ℕ → Eval Parts
+  entered name index = do
+    t ← thunk_at name
     check (nat_lt index (length t.outputs)) (Refused (NoOutput name index))
     count name
-
-  -- the job of a thunk of which an output is wanted
-  unfoldable pub prepared : ObjectName → ℕ → Eval Job
-  prepared name index = do
-    t ← thunk_at name
-    entered name index t
-    resolved name t
-
--- the outcome of a job
-abbrev pub ask : (ℕ → Job → Option Outcome) → Job → Eval Outcome
-ask answer job = do
-  s ← current
-  outcome ← need (answer (length s.asked) job) (Stands job)
-  note_asked job
-  give outcome
+    give t
 
 module _ (answer : ℕ → Job → Option Outcome) (budget : ℕ) where
-  -- an output of a thunk
-  unfoldable pub output_of : ObjectName → ℕ → Eval ObjectName
-  output_of name index = do
-    job ← prepared budget name index
-    outcome ← ask answer job
-    outputs ← outputs_by name outcome
-    need (slice_get outputs index) (Refused (NoOutput name index))
+  -- the value of a reference, where `deeper` gives those that are met after a step
+  module _ (deeper : Ref → Eval ObjectName) where
+    -- the outputs of a thunk: it was reduced, or it is entered
+    abbrev pub outputs_at : ObjectName → ℕ → Option (List ObjectName) → Eval (List ObjectName)
+    outputs_at name index (Some outputs) = give outputs
+    outputs_at name index None = do
+      t ← entered budget name index
+      values ← each deeper (refs_of t)
+      reduce answer name (resolved_by t values)
 
-  -- the value of a wanted reference
+    -- an output of a thunk
+    abbrev pub output_of : ObjectName → ℕ → Eval ObjectName
+    output_of name index = do
+      s ← current
+      outputs ← outputs_at name index (s.reduced name)
+      need (slice_get outputs index) (Refused (NoOutput name index))
+
+    -- the value that an output is, or that the thunk gives which it is
+    abbrev pub passed : Kind → ObjectName → Eval ObjectName
+    passed kinds.Value output = give output
+    passed kinds.Thunk output = do
+      count budget output
+      deeper (Out output 0)
+
+    abbrev pub value_by : Ref → Eval ObjectName
+    value_by (Value name) = held_value name
+    value_by (Out name index) = do
+      output ← output_of name index
+      passed output.kind output
+
+  -- no step is left, so nothing deeper is met
+  abbrev pub beyond : Ref → Eval ObjectName
+  beyond ref = stop (Refused (Spent (ref_name ref) budget))
+
+  -- the value of a reference, where at most so many steps are left
+  unfoldable pub value_within : ℕ → Ref → Eval ObjectName
+  value_within zero = value_by beyond
+  value_within (suc left) = value_by (value_within left)
+
+  -- the value of a reference
   unfoldable pub value_of : Ref → Eval ObjectName
-  value_of (Value name) = held_value name
-  value_of (Out name index) = do
-    output ← output_of name index
-    value_output name output.kind output
+  value_of = value_within budget
 
   -- the values of some references, in order
   abbrev pub values_of : List Ref → Eval (List ObjectName)

@@ -1,5 +1,8 @@
 pub mod Eval
 pub mod Evaluation
 pub mod PartWay
-pub mod Evaluating
 pub mod Pieces
+pub mod Machine
+pub mod Walking
+pub mod Walk
+pub mod Evaluating

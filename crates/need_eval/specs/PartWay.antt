@@ -10,7 +10,7 @@ use Rattle.blob_store.specs.Store.{Store, Write, written}
 use Rattle.need_eval.specs.declared.fault.EvalFault.{EvalFault}
 use Rattle.need_eval.specs.declared.fault.EvalFault.TheVariants as faults
 use Rattle.need_eval.specs.declared.evaluating.Values.{Values}
-use Rattle.need_eval.specs.Eval.{State, Stop, Refused, NotBuilt, Clash, Ended, Got, Stopped}
+use Rattle.need_eval.specs.Eval.{State, Stop, Refused, Clash, Ended, Got, Stopped}
 
 -- the state in which an evaluation ended
 abbrev pub state_after : {A : Type 0} → Ended A → State
@@ -39,7 +39,6 @@ pub record StopsWith {A : Type 0} (why : Stop) (e : Ended A) (now : Store) : Typ
 -- what was done up to a fault
 abbrev pub Stops : {A : Type 0} → State → Ended A → Store → EvalFault → Type 0
 Stops s e now (faults.Refused refusal) = StopsWith (Refused refusal) e now
-Stops s e now (faults.NotBuilt name) = StopsWith (NotBuilt name) e now
 Stops s e now (faults.Clash name found fresh) = StopsWith (Clash name found fresh) e now
 Stops s e now faults.StoreFailed = IsPartWay s e now
 Stops s e now faults.RunFailed = IsPartWay s e now
@@ -65,7 +64,6 @@ AreAnswers tells outcome jobs given = AllZip (λ job o. Fits job o × (tells job
 abbrev pub EvalCause : ℕ → ℕ → ℕ → ℕ → ℕ → Result Values EvalFault → Type 0
 EvalCause retries kept_before kept_after run_before run_after (Ok values) = Unit {0}
 EvalCause retries kept_before kept_after run_before run_after (Err (faults.Refused refusal)) = Unit {0}
-EvalCause retries kept_before kept_after run_before run_after (Err (faults.NotBuilt name)) = Unit {0}
 EvalCause retries kept_before kept_after run_before run_after (Err (faults.Clash name found fresh)) = Unit {0}
 EvalCause retries kept_before kept_after run_before run_after (Err faults.StoreFailed) = RoseBy retries kept_before kept_after
 EvalCause retries kept_before kept_after run_before run_after (Err faults.RunFailed) = Rose run_before run_after
@@ -75,7 +73,6 @@ EvalCause retries kept_before kept_after run_before run_after (Err faults.Memory
 abbrev pub ClashShows : Result Values EvalFault → Type 0
 ClashShows (Ok values) = Unit {0}
 ClashShows (Err (faults.Refused refusal)) = Unit {0}
-ClashShows (Err (faults.NotBuilt name)) = Unit {0}
 ClashShows (Err (faults.Clash name found fresh)) = HaveOneName name found fresh
 ClashShows (Err faults.StoreFailed) = Unit {0}
 ClashShows (Err faults.RunFailed) = Unit {0}

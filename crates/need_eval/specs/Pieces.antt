@@ -1,24 +1,17 @@
--- What the pieces of `evaluate` do, by their answers.
-use Rattle.std.specs.Prelude.{◌≡◌, ℕ, suc, List, [], ◌∷◌, length, map, slice_get, Result, Ok, Err}
+-- What the pieces of an evaluation do, by their answers.
+use Rattle.std.specs.Prelude.{◌≡◌, ℕ, suc, Result, Ok, Err}
 use Rattle.object_name.specs.Causes.{Rose, RoseBy}
-use Rattle.object_name.specs.Name.{ObjectName}
-use Rattle.thunk_codec.specs.declared.reference.Ref.{Ref}
-use Rattle.thunk_codec.specs.declared.job.Outcome.{Outcome}
-use Rattle.thunk_codec.specs.Job.{ref_name}
 use Rattle.blob_store.specs.Store.{Store}
 use Rattle.blob_store.specs.declared.storing.StoreFault.{StoreFault}
 use Rattle.blob_store.specs.declared.storing.StoreFault.TheVariants as stores
 use Rattle.need_eval.specs.declared.fault.EvalFault.{EvalFault}
 use Rattle.need_eval.specs.declared.fault.EvalFault.TheVariants as faults
-use Rattle.need_eval.specs.declared.fault.Refusal.TheVariants.{NoOutput}
-use Rattle.need_eval.specs.Eval.{State, Refused, NotBuilt, Ended, Got, Eval, ◌>>=◌, give, need}
-use Rattle.need_eval.specs.Evaluation.{bytes_of, held_value, outputs_by, value_output}
+use Rattle.need_eval.specs.Eval.{State, Refused, Ended, Got}
 use Rattle.need_eval.specs.PartWay.{StopsWith, Stops, Gives, HaveOneName}
 
 -- an evaluation that writes nothing stops so, or the keeper failed or memory was refused on the way
 abbrev pub StopsReading : {A : Type 0} → Ended A → Store → EvalFault → Type 0
 StopsReading e store (faults.Refused refusal) = StopsWith (Refused refusal) e store
-StopsReading e store (faults.NotBuilt name) = StopsWith (NotBuilt name) e store
 StopsReading e store (faults.Clash name found fresh) = ⊥
 StopsReading e store faults.StoreFailed = Unit {0}
 StopsReading e store faults.RunFailed = ⊥
@@ -37,7 +30,6 @@ Writes s e now (Err fault) = Stops s e now fault
 -- what a fault of a call that runs no job shows, whatever is told
 abbrev pub KeeperCause : ℕ → ℕ → ℕ → EvalFault → Type 0
 KeeperCause retries before after (faults.Refused refusal) = Unit {0}
-KeeperCause retries before after (faults.NotBuilt name) = Unit {0}
 KeeperCause retries before after (faults.Clash name found fresh) = HaveOneName name found fresh
 KeeperCause retries before after faults.StoreFailed = RoseBy retries before after
 KeeperCause retries before after faults.RunFailed = ⊥
@@ -46,7 +38,6 @@ KeeperCause retries before after faults.Memory = Unit {0}
 -- what a fault of a run shows
 abbrev pub RunCause : ℕ → ℕ → EvalFault → Type 0
 RunCause before after (faults.Refused refusal) = ⊥
-RunCause before after (faults.NotBuilt name) = ⊥
 RunCause before after (faults.Clash name found fresh) = ⊥
 RunCause before after faults.StoreFailed = ⊥
 RunCause before after faults.RunFailed = Rose before after
@@ -55,7 +46,6 @@ RunCause before after faults.Memory = Unit {0}
 -- what a fault of a call shows that may run a job
 abbrev pub AnyCause : ℕ → ℕ → ℕ → ℕ → ℕ → EvalFault → Type 0
 AnyCause retries kept_before kept_after run_before run_after (faults.Refused refusal) = Unit {0}
-AnyCause retries kept_before kept_after run_before run_after (faults.NotBuilt name) = Unit {0}
 AnyCause retries kept_before kept_after run_before run_after (faults.Clash name found fresh) = HaveOneName name found fresh
 AnyCause retries kept_before kept_after run_before run_after faults.StoreFailed = RoseBy retries kept_before kept_after
 AnyCause retries kept_before kept_after run_before run_after faults.RunFailed = Rose run_before run_after
@@ -70,41 +60,3 @@ fault_of_store stores.Memory = faults.Memory
 -- the state after one step more
 abbrev pub stepped : State → State
 stepped s = record s { steps = suc s.steps }
-
--- the REFs of some inputs
-abbrev pub refs_of : List (List ℕ × Ref) → List Ref
-refs_of inputs = map (λ input. input.1) inputs
-
--- the names in some REFs
-abbrev pub names_of : List Ref → List ObjectName
-names_of refs = map ref_name refs
-
--- the inputs, with the bytes of the objects that their REFs name
-abbrev pub with_bytes : Store → List (List ℕ × Ref) → List (List ℕ × List ℕ)
-with_bytes store inputs = map (λ input. (input.0, bytes_of store (ref_name input.1))) inputs
-
--- the paths of some inputs, with the lengths of their bytes, and with the sizes in the names of their REFs
-abbrev pub lengths_of : List (List ℕ × List ℕ) → List (List ℕ × ℕ)
-lengths_of read = map (λ input. (input.0, length input.1)) read
-
-abbrev pub sizes_of : List (List ℕ × Ref) → List (List ℕ × ℕ)
-sizes_of inputs = map (λ input. (input.0, (ref_name input.1).size)) inputs
-
--- a wanted value, alone
-abbrev pub held_alone : ObjectName → Eval (List ObjectName)
-held_alone name = do
-  value ← held_value name
-  give (value ∷ [])
-
--- a wanted one of some outputs, where it is a value
-abbrev pub wanted_output : ObjectName → ℕ → List ObjectName → Eval ObjectName
-wanted_output name index outputs = do
-  output ← need (slice_get outputs index) (Refused (NoOutput name index))
-  value_output name output.kind output
-
--- a wanted output of a thunk, by the outcome of its job
-abbrev pub finished : ObjectName → ℕ → Outcome → Eval (List ObjectName)
-finished name index outcome = do
-  outputs ← outputs_by name outcome
-  value ← wanted_output name index outputs
-  give (value ∷ [])

@@ -17,6 +17,8 @@ pub enum Refusal {
     NoOutput { name: Name, index: u32 },
     /// The budget was spent before this thunk was entered.
     Spent { name: Name, budget: u32 },
+    /// The encoding of the thunk's job has so many bytes, over 67,108,864.
+    TooBig { name: Name, bytes: u64 },
     /// The thunk's function failed with a status from 1 to 204.
     FunctionFailed { name: Name, status: u8 },
 }
@@ -25,8 +27,6 @@ pub enum Refusal {
 #[derive(Debug, Drop)]
 pub enum EvalFault {
     Refused(Refusal),
-    /// The thunk's reduction needs what isn't built yet.
-    NotBuilt(Name),
     /// Other bytes are held under the name of an output.
     Clash {
         name: Name,

@@ -1,15 +1,13 @@
 //! Evaluation by need: the values of references, from a store, thunk by thunk.
 #![tactic(auto)]
 
-mod copying;
 mod evaluating;
 mod fault;
-mod gathering;
-pub mod laws;
-mod reading;
-#[cfg(test)]
-mod tests;
-mod writing;
+mod frame;
+mod standing;
+mod walker;
 
 pub use evaluating::{Values, evaluate};
 pub use fault::{EvalFault, Refusal};
+pub use standing::Prepared;
+pub use walker::{Walked, Walker};

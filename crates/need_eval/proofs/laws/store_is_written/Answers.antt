@@ -1,6 +1,0 @@
--- The law is proved for every evaluation at once.
-use Rattle.need_eval.proofs.Growth as growth
-use Rattle.need_eval.proofs.laws.store_is_written.Goals as goal
-
-pub returns : goal.returns
-returns c = growth.store_is_written
