@@ -1,2 +1,4 @@
+pub mod Keeping
 pub mod Fuel
+pub mod Stopping
 pub mod Turns
