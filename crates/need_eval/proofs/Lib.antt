@@ -2,7 +2,6 @@
 pub mod Keeping
 pub mod Growth
 pub mod Fuel
-pub mod Stopping
 pub mod Turns
 pub mod Going
 pub mod ReadOnly
