@@ -1,4 +1,8 @@
+-- Lemmas of need_eval.
 pub mod Keeping
+pub mod Growth
 pub mod Fuel
-pub mod Stopping
 pub mod Turns
+pub mod Going
+pub mod ReadOnly
+pub mod Inputs

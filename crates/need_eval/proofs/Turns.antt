@@ -1,6 +1,6 @@
 -- The turns of an evaluation that stands somewhere inside: what it comes to by one reference more, by one thunk entered, and by
 -- one thunk left.
-use Rattle.std.proofs.Common.{◌≡◌, ℕ, List, [], ◌∷◌, ◌++◌, length, Bool, true, false, Option, Some, None, refl, sym, ap, ◌∙◌, append_assoc, append-nil}
+use Rattle.std.proofs.Common.{◌≡◌, ℕ, List, [], ◌∷◌, ◌++◌, length, Bool, true, false, Option, Some, None, refl, sym, ap, subst, ◌∙◌, append_assoc, append-nil}
 use Rattle.std.specs.Prelude.{slice_get, nat_le, ◌≤◌, ◌<◌, if◌then◌else◌}
 use Rattle.std.specs.Ordering.{eq_by_cmp}
 use Rattle.std.proofs.lemmas.Bool.{le-leb, lt-leb}
@@ -26,7 +26,7 @@ use Rattle.need_eval.specs.PartWay.{state_after}
 use Rattle.need_eval.specs.Pieces.{StopsReading}
 use Rattle.blob_store.proofs.Names.{name_cmp-same}
 use Rattle.need_eval.proofs.Fuel.{value_of-is}
-use Rattle.need_eval.proofs.Stopping.{StopsReading-go_on, StopsReading-of}
+use Rattle.need_eval.proofs.ReadOnly.{StopsReading-go_on}
 
 -- one output of some
 abbrev pub pick : ObjectName → ℕ → List ObjectName → Eval ObjectName
@@ -39,6 +39,10 @@ marked name outputs s = state_after (mark name outputs s)
 -- the outcome of a job was asked for
 abbrev pub asked_for : Job → State → State
 asked_for job s = record s { asked = s.asked ++ job ∷ [] }
+
+-- an evaluation stops so where one that ends as it does stops so
+StopsReading-of : {A : Type 0} (e d : Ended A) (store : Store) (fault : EvalFault) → e ≡ d → StopsReading d store fault → StopsReading e store fault
+StopsReading-of e d store fault is h = subst (λ e. StopsReading e store fault) (sym is) h
 
 -- what follows what follows
 then-then : {A B C : Type 0} (e : Ended A) (f : A → Eval B) (g : B → Eval C) → go_on (go_on e f) g ≡ go_on e (λ x. f x >>= g)

@@ -4,6 +4,8 @@
 mod evaluating;
 mod fault;
 mod frame;
+mod jobs;
+mod reading;
 mod standing;
 mod walker;
 

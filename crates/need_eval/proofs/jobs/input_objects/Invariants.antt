@@ -1,0 +1,7 @@
+use Rattle.need_eval.specs.Evaluation.{input_object}
+use Rattle.need_eval.proofs.Inputs.{HasRead}
+use Rattle.need_eval.proofs.jobs.input_objects.Given as goal
+
+abbrev pub invariant-inputs : goal.invariant-inputs
+invariant-inputs g l =
+    HasRead g.K.Keeper.tells g.K.Keeper.store g.K.Keeper.faults input_object l.inputs l.initial.keeper l.keeper l.path-index l.read

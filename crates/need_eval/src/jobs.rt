@@ -1,0 +1,88 @@
+//! The job of a thunk whose references are all values.
+
+ghost use Rattle.std.specs.Prelude.{◌≡◌, ◌≤◌, IfOk, IfErr};
+ghost use Rattle.need_eval.specs.Eval.{State, each};
+ghost use Rattle.need_eval.specs.Evaluation.{input_object, job_of};
+ghost use Rattle.need_eval.specs.Pieces.{Reads, KeeperCause};
+
+use crate::fault::EvalFault;
+use crate::reading::object;
+use blob_store::Keeper;
+use object_name::{Bytes, Many, TryCopy};
+use std::alloc::{AllocError, Global};
+use thunk_codec::{Job, Path, Ref, Thunk};
+
+/// Copies of some things, in order.
+fn copy_all<T: TryCopy>(alloc: Global, items: &[T]) -> Result<Many<T>, AllocError>
+    ensures { IfOk result (λ copies. copies ≡ items.now) }
+{
+    let mut copies = Many::new(alloc);
+    'copied: for item in items {
+        copies.push(item.copy(alloc)?)?;
+    }
+    Ok(copies)
+}
+
+/// The path of an input, with the bytes of its value.
+fn input_object<K: Keeper>(
+    alloc: Global,
+    keeper: &mut K,
+    path: &Path,
+    reference: &Ref,
+    retries: u32,
+) -> Result<(Path, Bytes), EvalFault>
+    ensures reads { K.tells → (s : State) → s.store ≡ K.store keeper.old → Reads (λ read. read) (input_object (path.now, reference.now) s) s result }
+    ensures same { K.tells → K.store keeper.new ≡ K.store keeper.old }
+    ensures later { K.faults keeper.old ≤ K.faults keeper.new }
+    ensures cause { IfErr result (KeeperCause retries (K.faults keeper.old) (K.faults keeper.new)) }
+{
+    let bytes = object(alloc, keeper, reference.name(), retries)?;
+    let path = path.copy(alloc)?;
+    Ok((path, bytes))
+}
+
+/// The paths of the inputs, with the bytes of their values.
+fn input_objects<K: Keeper>(
+    alloc: Global,
+    keeper: &mut K,
+    inputs: &[(Path, Ref)],
+    retries: u32,
+) -> Result<Many<(Path, Bytes)>, EvalFault>
+    ensures reads { K.tells → (s : State) → s.store ≡ K.store keeper.old → Reads (λ read. read) (each input_object inputs.now s) s result }
+    ensures same { K.tells → K.store keeper.new ≡ K.store keeper.old }
+    ensures later { K.faults keeper.old ≤ K.faults keeper.new }
+    ensures cause { IfErr result (KeeperCause retries (K.faults keeper.old) (K.faults keeper.new)) }
+{
+    let mut read = Many::new(alloc);
+    'inputs: for (path, reference) in inputs {
+        let input = input_object(alloc, keeper, path, reference, retries)?;
+        read.push(input)?;
+    }
+    Ok(read)
+}
+
+/// The job of a thunk whose references are all values.
+pub fn job_of<K: Keeper>(
+    alloc: Global,
+    keeper: &mut K,
+    thunk: &Thunk,
+    retries: u32,
+) -> Result<Job, EvalFault>
+    ensures reads { K.tells → (s : State) → s.store ≡ K.store keeper.old → Reads (λ job. job) (job_of thunk.now s) s result }
+    ensures same { K.tells → K.store keeper.new ≡ K.store keeper.old }
+    ensures later { K.faults keeper.old ≤ K.faults keeper.new }
+    ensures cause { IfErr result (KeeperCause retries (K.faults keeper.old) (K.faults keeper.new)) }
+{
+    let function = object(alloc, keeper, thunk.function().name(), retries)?;
+    let inputs = input_objects(alloc, keeper, thunk.inputs(), retries)?;
+    let args = copy_all(alloc, thunk.args())?;
+    let envs = copy_all(alloc, thunk.envs())?;
+    let outputs = copy_all(alloc, thunk.outputs())?;
+    Ok(Job {
+        function,
+        args,
+        envs,
+        inputs,
+        outputs,
+    })
+}
