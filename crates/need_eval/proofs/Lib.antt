@@ -1,2 +1,4 @@
 pub mod Keeping
 pub mod Growth
+pub mod Stopping
+pub mod Asking
