@@ -2,3 +2,5 @@ pub mod Keeping
 pub mod Growth
 pub mod Stopping
 pub mod Asking
+pub mod Outcomes
+pub mod Walks
