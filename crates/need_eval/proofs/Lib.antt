@@ -4,3 +4,4 @@ pub mod Stopping
 pub mod Asking
 pub mod Outcomes
 pub mod Walks
+pub mod Progress

@@ -21,11 +21,11 @@ nothing-before (Got ys s) = refl
 nothing-before (Stopped why s) = refl
 
 -- what is left where nothing was done
-resume-all : (answer : ℕ → Job → Option Outcome) (budget : ℕ) (refs : List Ref) (s : State) → values_of answer budget refs s ≡ resume answer budget [] [] refs s
+pub resume-all : (answer : ℕ → Job → Option Outcome) (budget : ℕ) (refs : List Ref) (s : State) → values_of answer budget refs s ≡ resume answer budget [] [] refs s
 unfolding resume
 resume-all answer budget refs s = nothing-before (values_of answer budget refs s)
 
-pub begins : (refs : List Ref) (budget : ℕ) (first : Store) (w : Walker) → IsFresh refs budget w → IsWalk refs first [] w first
+unfoldable pub begins : (refs : List Ref) (budget : ℕ) (first : Store) (w : Walker) → IsFresh refs budget w → IsWalk refs first [] w first
 begins refs budget first w fresh = record {
   writes = [];
   asked = [];
@@ -41,7 +41,7 @@ begins refs budget first w fresh = record {
       ∙ ap (λ frames. resume answer w.budget frames w.level.done w.level.rest.items (walking w first [] [])) (sym fresh.frames);
 }
 
-pub goes_on : (refs : List Ref) (first : Store) (given : List Outcome) (w after : Walker) (now : Store) → IsWalk refs first given w now → GoesOn w after now → after.budget ≡ w.budget → IsWalk refs first given after now
+unfoldable pub goes_on : (refs : List Ref) (first : Store) (given : List Outcome) (w after : Walker) (now : Store) → IsWalk refs first given w now → GoesOn w after now → after.budget ≡ w.budget → IsWalk refs first given after now
 goes_on refs first given w after now walk goes budget = record {
   writes = walk.writes;
   asked = walk.asked;
@@ -52,10 +52,10 @@ goes_on refs first given w after now walk goes budget = record {
 }
 
 -- one more in each of two lists
-one-more : {A B : Type 0} (xs : List A) (ys : List B) (x : A) (y : B) → length xs ≡ length ys → length (xs ++ x ∷ []) ≡ length (ys ++ y ∷ [])
+pub one-more : {A B : Type 0} (xs : List A) (ys : List B) (x : A) (y : B) → length xs ≡ length ys → length (xs ++ x ∷ []) ≡ length (ys ++ y ∷ [])
 one-more xs ys x y same = length-append xs (x ∷ []) ∙ ap (λ n. n + 1) same ∙ sym (length-append ys (y ∷ []))
 
-pub is_supplied : (refs : List Ref) (first : Store) (given : List Outcome) (w after : Walker) (p : Prepared) (outcome : Outcome) (old now : Store) → IsWalk refs first given w old → Supplied w after p outcome old now → after.budget ≡ w.budget → IsWalk refs first (given ++ outcome ∷ []) after now
+unfoldable pub is_supplied : (refs : List Ref) (first : Store) (given : List Outcome) (w after : Walker) (p : Prepared) (outcome : Outcome) (old now : Store) → IsWalk refs first given w old → Supplied w after p outcome old now → after.budget ≡ w.budget → IsWalk refs first (given ++ outcome ∷ []) after now
 is_supplied refs first given w after p outcome old now walk supplied budget = record {
   writes = walk.writes ++ supplied.made;
   asked = walk.asked ++ p.job ∷ [];
