@@ -5,3 +5,4 @@ pub mod Asking
 pub mod Outcomes
 pub mod Walks
 pub mod Progress
+pub mod Rounds
