@@ -7,3 +7,9 @@ pub mod Leaving
 pub mod Going
 pub mod ReadOnly
 pub mod Inputs
+pub mod Stopping
+pub mod Asking
+pub mod Outcomes
+pub mod Walks
+pub mod Progress
+pub mod Rounds

@@ -6,3 +6,4 @@ pub mod Machine
 pub mod Walking
 pub mod Walk
 pub mod Evaluating
+pub mod Progress
