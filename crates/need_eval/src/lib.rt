@@ -4,6 +4,7 @@
 mod evaluating;
 mod fault;
 mod frame;
+pub mod laws;
 mod standing;
 mod walker;
 
