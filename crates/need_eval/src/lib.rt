@@ -5,6 +5,7 @@ mod evaluating;
 mod fault;
 mod frame;
 mod jobs;
+pub mod laws;
 mod reading;
 mod standing;
 mod walker;
