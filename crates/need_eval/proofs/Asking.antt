@@ -63,26 +63,26 @@ AsksNoMore-ask given text job s used =
 -- a whole evaluation
 pub values_of-asks : (answer : ℕ → Job → Option Outcome) (budget : ℕ) (refs : List Ref) → Keeps AsksMore (values_of answer budget refs)
 values_of-asks answer budget =
-    keeps-values_of AsksMore AsksMore-kept (λ write s. AsksMore-stay s (state_after (make_write write s)) refl)
+    keeps-values_of AsksMore AsksMore-kept (λ write s is_made. AsksMore-stay s (state_after (make_write write s)) refl)
     (λ name outputs s. AsksMore-stay s (state_after (mark name outputs s)) refl) answer (AsksMore-ask answer)
-    (λ s. AsksMore-stay s (state_after (step s)) refl) budget
+    budget (λ s below. AsksMore-stay s (state_after (step s)) refl)
 
 -- what is left of one
 pub resume-asks : (answer : ℕ → Job → Option Outcome) (budget : ℕ) (frames : List Frame) (done : List ObjectName) (rest : List Ref) → Keeps AsksMore (resume answer budget frames done rest)
 resume-asks answer budget =
-    keeps-resume AsksMore AsksMore-kept (λ write s. AsksMore-stay s (state_after (make_write write s)) refl)
+    keeps-resume AsksMore AsksMore-kept (λ write s is_made. AsksMore-stay s (state_after (make_write write s)) refl)
     (λ name outputs s. AsksMore-stay s (state_after (mark name outputs s)) refl) answer (AsksMore-ask answer)
-    (λ s. AsksMore-stay s (state_after (step s)) refl) budget
+    budget (λ s below. AsksMore-stay s (state_after (step s)) refl)
 
 pub values_of-asks_no_more : (given : List Outcome) (budget : ℕ) (refs : List Ref) → Keeps (AsksNoMore given) (values_of (by_list given) budget refs)
 values_of-asks_no_more given budget =
-    keeps-values_of (AsksNoMore given) (AsksNoMore-kept given) (λ write s used. refl) (λ name outputs s used. refl) (by_list given) (AsksNoMore-ask given)
-    (λ s used. refl) budget
+    keeps-values_of (AsksNoMore given) (AsksNoMore-kept given) (λ write s is_made used. refl) (λ name outputs s used. refl) (by_list given) (AsksNoMore-ask given)
+    budget (λ s below used. refl)
 
 pub resume-asks_no_more : (given : List Outcome) (budget : ℕ) (frames : List Frame) (done : List ObjectName) (rest : List Ref) → Keeps (AsksNoMore given) (resume (by_list given) budget frames done rest)
 resume-asks_no_more given budget =
-    keeps-resume (AsksNoMore given) (AsksNoMore-kept given) (λ write s used. refl) (λ name outputs s used. refl) (by_list given) (AsksNoMore-ask given)
-    (λ s used. refl) budget
+    keeps-resume (AsksNoMore given) (AsksNoMore-kept given) (λ write s is_made used. refl) (λ name outputs s used. refl) (by_list given) (AsksNoMore-ask given)
+    budget (λ s below used. refl)
 
 -- the state after one job more was asked for
 abbrev pub asked_one : Job → State → State
@@ -117,9 +117,9 @@ module _ (R : State → State → Type 0) (kept : IsKept R) (writes : (write : W
       subst (λ (e : Ended (List ObjectName)). R u (state_after e))
       (sym (innermost-reduced answer budget inner outer done s ∙ ap (λ e. go_on e (following answer budget inner outer)) reduced))
       (keeps-go_on R kept u (go_on e (marking inner.name)) (following answer budget inner outer)
-      (keeps-go_on R kept u e (marking inner.name) (keeps-finished R kept writes inner.name t outcome u)
+      (keeps-go_on R kept u e (marking inner.name) (keeps-finished R kept (λ write s is_made. writes write s) inner.name t outcome u)
       (λ outputs v. marks inner.name outputs v))
-      (keeps-following R kept writes marks answer asks steps budget inner outer))
+      (keeps-following R kept (λ write s is_made. writes write s) marks answer asks budget (λ s below. steps s) inner outer))
 
   -- of a walker that waits at a job
   pub keeps-stands : (w : Walker) (store : Store) (p : Prepared) (made : List Write) (asked : List Job) (outcome : Outcome) → StandsAt w store p → answer (length asked) p.job ≡ Some outcome → R (asked_one p.job (walking w store made asked)) (state_after (left answer w (walking w store made asked)))

@@ -17,7 +17,7 @@ use Rattle.need_eval.specs.declared.fault.Refusal.TheVariants.{NoOutput, Spent}
 use Rattle.need_eval.specs.Eval.{State, Stop, Refused, Stands, Ended, Got, Stopped, Eval, ◌>>=◌, go_on, give, check, need, each, step, make_write, note_asked, mark}
 use Rattle.need_eval.specs.Evaluation.{thunk_at, ask, reduce, count, entered, outputs_at, output_of, passed, value_by, beyond, value_within, value_of}
 use Rattle.need_eval.specs.PartWay.{state_after}
-use Rattle.need_eval.proofs.Keeping.{Keeps, IsKept, keeps-go_on, keeps-need, keeps-check, keeps-thunk_at, keeps-output_of, keeps-value_by}
+use Rattle.need_eval.proofs.Keeping.{Keeps, IsKept, IsMade, keeps-go_on, keeps-need, keeps-check, keeps-thunk_at, keeps-output_of, keeps-value_by}
 
 -- no fewer steps were used
 abbrev Later : State → State → Type 0
@@ -26,11 +26,11 @@ Later s t = s.steps ≤ t.steps
 Later-kept : IsKept Later
 Later-kept = record { same = λ s. omega arith; both = λ s t u first then. omega (arith, first, then) }
 
-Later-step : (s : State) → Later s (state_after (step s))
-Later-step s = omega arith
+Later-step : (budget : ℕ) (s : State) → s.steps < budget → Later s (state_after (step s))
+Later-step budget s below = omega arith
 
-Later-write : (write : Write) (s : State) → Later s (state_after (make_write write s))
-Later-write write s = omega arith
+Later-write : (write : Write) (s : State) → IsMade s.store write → Later s (state_after (make_write write s))
+Later-write write s made = omega arith
 
 Later-mark : (name : ObjectName) (outputs : List ObjectName) (s : State) → Later s (state_after (mark name outputs s))
 Later-mark name outputs s = omega arith
@@ -112,14 +112,14 @@ module _ (answer : ℕ → Job → Option Outcome) (budget : ℕ) where
     value_by-same (Value name) s later = refl
     value_by-same (Out name index) s later =
         go_on-same low (output_of answer budget f name index s) (λ output. passed answer budget f output.kind output) (λ output. passed answer budget g output.kind output)
-        (let more = keeps-output_of Later Later-kept Later-write Later-mark answer (Later-ask answer) Later-step budget f rises name index s in omega (arith, later, more))
+        (let more = keeps-output_of Later Later-kept Later-write Later-mark answer (Later-ask answer) budget (Later-step budget) f rises name index s in omega (arith, later, more))
         (λ output t more. passed-same output.kind output t more)
         ∙ ap (λ e. go_on (go_on e (λ outputs. need (slice_get outputs index) (Refused (NoOutput name index)))) (λ output. passed answer budget g output.kind output)) (outputs_at-same name index (s.reduced name) s later)
 
   within-rises : (left : ℕ) (r : Ref) → Keeps Later (value_within answer budget left r)
   unfolding value_within
-  within-rises zero = keeps-value_by Later Later-kept Later-write Later-mark answer (Later-ask answer) Later-step budget (beyond answer budget) (λ r s. omega arith)
-  within-rises (suc left) = keeps-value_by Later Later-kept Later-write Later-mark answer (Later-ask answer) Later-step budget (value_within answer budget left) (within-rises left)
+  within-rises zero = keeps-value_by Later Later-kept Later-write Later-mark answer (Later-ask answer) budget (Later-step budget) (beyond answer budget) (λ r s. omega arith)
+  within-rises (suc left) = keeps-value_by Later Later-kept Later-write Later-mark answer (Later-ask answer) budget (Later-step budget) (value_within answer budget left) (within-rises left)
 
   -- where no more steps are left than these, one more changes nothing
   within-more : (left : ℕ) (r : Ref) (s : State) → budget ≤ s.steps + left → value_within answer budget left r s ≡ value_within answer budget (suc left) r s

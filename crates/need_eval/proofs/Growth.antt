@@ -11,7 +11,7 @@ use Rattle.need_eval.specs.Eval.{State, Stands, start, each, need, give, note_as
 use Rattle.need_eval.specs.Evaluation.{ask, store_one, outputs_by, finished, reduce, values_of}
 use Rattle.need_eval.specs.Machine.{resume}
 use Rattle.need_eval.specs.PartWay.{state_after}
-use Rattle.need_eval.proofs.Keeping.{Keeps, IsKept, keeps-go_on, keeps-need, keeps-each, keeps-store_one, keeps-outputs_by, keeps-finished, keeps-reduce, keeps-values_of, keeps-resume}
+use Rattle.need_eval.proofs.Keeping.{Keeps, IsKept, IsMade, keeps-go_on, keeps-need, keeps-each, keeps-store_one, keeps-outputs_by, keeps-finished, keeps-reduce, keeps-values_of, keeps-resume}
 
 -- some writes were made, and are put into the store
 pub record Grows (s t : State) : Type 0 where
@@ -38,8 +38,8 @@ pub Grows-kept : IsKept Grows
 Grows-kept = record { same = Grows-same; both = Grows-both }
 
 -- one write
-pub Grows-write : (write : Write) (s : State) → Grows s (record s { store = after_write s.store write; writes = s.writes ++ write ∷ [] })
-Grows-write write s = record { made = write ∷ []; writes = refl; store = refl }
+pub Grows-write : (write : Write) (s : State) → IsMade s.store write → Grows s (record s { store = after_write s.store write; writes = s.writes ++ write ∷ [] })
+Grows-write write s is_made = record { made = write ∷ []; writes = refl; store = refl }
 
 -- where the store and the writes stay
 pub Grows-stay : (s t : State) → t.store ≡ s.store → t.writes ≡ s.writes → Grows s t
@@ -70,12 +70,12 @@ reduce-grows answer = keeps-reduce Grows Grows-kept Grows-write Grows-mark answe
 -- a whole evaluation
 pub values_of-grows : (answer : ℕ → Job → Option Outcome) (budget : ℕ) (refs : List Ref) → Keeps Grows (values_of answer budget refs)
 values_of-grows answer budget =
-    keeps-values_of Grows Grows-kept Grows-write Grows-mark answer (Grows-ask answer) (λ s. Grows-stay s _ refl refl) budget
+    keeps-values_of Grows Grows-kept Grows-write Grows-mark answer (Grows-ask answer) budget (λ s below. Grows-stay s _ refl refl)
 
 -- what is left of one
 pub resume-grows : (answer : ℕ → Job → Option Outcome) (budget : ℕ) (frames : List Frame) (done : List ObjectName) (rest : List Ref) → Keeps Grows (resume answer budget frames done rest)
 resume-grows answer budget =
-    keeps-resume Grows Grows-kept Grows-write Grows-mark answer (Grows-ask answer) (λ s. Grows-stay s _ refl refl) budget
+    keeps-resume Grows Grows-kept Grows-write Grows-mark answer (Grows-ask answer) budget (λ s below. Grows-stay s _ refl refl)
 
 -- from the start on, all writes are those made
 pub store_is_written : (answer : ℕ → Job → Option Outcome) (budget : ℕ) (refs : List Ref) (before : Store) → (state_after (values_of answer budget refs (start before))).store ≡ written before (state_after (values_of answer budget refs (start before))).writes

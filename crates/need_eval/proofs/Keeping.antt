@@ -1,7 +1,8 @@
 -- What evaluations keep: a relation of two states that holds of a state and itself, and over two runs where it holds over each,
 -- holds over a whole evaluation where it holds over what the evaluation does.
-use Rattle.std.proofs.Common.{ℕ, zero, suc, List, [], ◌∷◌, ◌++◌, Bool, true, false, Option, Some, None, length}
-use Rattle.std.specs.Prelude.{nat_lt, nat_le, slice_get}
+use Rattle.std.proofs.Common.{◌≡◌, ◌<◌, ℕ, zero, suc, List, [], ◌∷◌, ◌++◌, Bool, true, false, cond, Option, Some, None, length, refl}
+use Rattle.std.specs.Prelude.{nat_lt, nat_le, slice_get, is_some}
+use Rattle.std.proofs.lemmas.Bool.{ltb-true}
 use Rattle.object_name.specs.declared.kind.Kind.{Kind}
 use Rattle.object_name.specs.declared.kind.Kind.TheVariants as kinds
 use Rattle.object_name.specs.Name.{ObjectName, name_of}
@@ -14,7 +15,8 @@ use Rattle.thunk_codec.specs.Thunk.{Parts, text_of}
 use Rattle.thunk_codec.specs.Reading.{thunk_of}
 use Rattle.thunk_codec.specs.Resolved.{refs_of, resolved_by}
 use Rattle.thunk_codec.specs.Job.{ref_name, resolved_size, max_job}
-use Rattle.blob_store.specs.Store.{Write, held, other_held, storing}
+use Rattle.blob_store.specs.Store.{Store, Write, held, own_write, other_held, storing}
+use Rattle.blob_store.specs.Store.Write.{Object, Note}
 use Rattle.reduction_cache.specs.Hit.{hit_of, note_write}
 use Rattle.need_eval.specs.declared.fault.Refusal.TheVariants.{Missing, BadThunk, NoOutput, Spent, TooBig}
 use Rattle.need_eval.specs.declared.frame.Frame.{Frame}
@@ -31,6 +33,11 @@ Keeps R m = (s : State) → R s (state_after (m s))
 pub record IsKept (R : State → State → Type 0) : Type 0 where
   pub same : (s : State) → R s s
   pub both : (s t u : State) → R s t → R t u → R s u
+
+-- a write that evaluations make: an object of whose name none is held, or a note
+abbrev pub IsMade : Store → Write → Type 0
+IsMade store (Object name bytes) = held store.objects name ≡ None
+IsMade store (Note name bytes) = Unit {0}
 
 -- what follows the outputs of the innermost thunk
 abbrev pub following : (ℕ → Job → Option Outcome) → ℕ → Frame → List Frame → List ObjectName → Eval (List ObjectName)
@@ -84,11 +91,13 @@ module _ (R : State → State → Type 0) (kept : IsKept R) where
       (λ function u. keeps-go_on u (each input_object t.inputs u) _ (keeps-each input_object t.inputs keeps-input_object u)
       (λ inputs v. kept.same v))
 
-  module _ (steps : (s : State) → R s (state_after (step s))) (budget : ℕ) where
+  module _ (budget : ℕ) (steps : (s : State) → s.steps < budget → R s (state_after (step s))) where
+    keeps-checked_step : (why : Stop) (s : State) (test : Bool) → nat_lt s.steps budget ≡ test → R s (state_after (go_on (check test why s) (λ _. step)))
+    keeps-checked_step why s true is = steps s (ltb-true s.steps budget is)
+    keeps-checked_step why s false is = kept.same s
+
     pub keeps-count : (name : ObjectName) → Keeps R (count budget name)
-    keeps-count name s =
-        keeps-go_on s (check (nat_lt s.steps budget) (Refused (Spent name budget)) s) (λ _. step)
-        (keeps-check (nat_lt s.steps budget) (Refused (Spent name budget)) s) (λ _. steps)
+    keeps-count name s = keeps-checked_step (Refused (Spent name budget)) s (nat_lt s.steps budget) refl
 
     pub keeps-entered : (name : ObjectName) (index : ℕ) → Keeps R (entered budget name index)
     keeps-entered name index s =
@@ -97,16 +106,19 @@ module _ (R : State → State → Type 0) (kept : IsKept R) where
         (keeps-check (nat_lt index (length t.outputs)) (Refused (NoOutput name index)) u)
         (λ _ v. keeps-go_on v (count budget name v) (λ _. give t) (keeps-count name v) (λ _ w. kept.same w)))
 
-  module _ (writes : (write : Write) (s : State) → R s (state_after (make_write write s))) where
-    keeps-no_clash : (bytes : List ℕ) (found : Option (List ℕ)) → Keeps R (no_clash bytes found)
-    keeps-no_clash bytes None s = kept.same s
-    keeps-no_clash bytes (Some found) s = kept.same s
+  module _ (writes : (write : Write) (s : State) → IsMade s.store write → R s (state_after (make_write write s))) where
+    keeps-storing : (bytes : List ℕ) (s : State) (found : Option (List ℕ)) → held s.store.objects (name_of bytes) ≡ found →
+        R s (state_after (go_on (each make_write (cond (is_some found) [] (own_write bytes ∷ [])) s) (λ _. give (name_of bytes))))
+    keeps-storing bytes s None is = writes (own_write bytes) s is
+    keeps-storing bytes s (Some found) is = kept.same s
+
+    keeps-unless_clash : (bytes : List ℕ) (s : State) (other : Option (List ℕ)) →
+        R s (state_after (go_on (no_clash bytes other s) (λ _. each make_write (storing s.store bytes) >>= λ _. give (name_of bytes))))
+    keeps-unless_clash bytes s None = keeps-storing bytes s (held s.store.objects (name_of bytes)) refl
+    keeps-unless_clash bytes s (Some other) = kept.same s
 
     pub keeps-store_one : (bytes : List ℕ) → Keeps R (store_one bytes)
-    keeps-store_one bytes s =
-        keeps-go_on s (no_clash bytes (other_held s.store bytes) s) (λ _. each make_write (storing s.store bytes) >>= λ _. give (name_of bytes))
-        (keeps-no_clash bytes (other_held s.store bytes) s)
-        (λ _. keeps-then (each make_write (storing s.store bytes)) (λ _. give (name_of bytes)) (keeps-each make_write (storing s.store bytes) writes) (λ _ u. kept.same u))
+    keeps-store_one bytes s = keeps-unless_clash bytes s (other_held s.store bytes)
 
     pub keeps-outputs_by : (name : ObjectName) (outcome : Outcome) → Keeps R (outputs_by name outcome)
     keeps-outputs_by name (Done outputs) = keeps-each store_one outputs keeps-store_one
@@ -116,7 +128,7 @@ module _ (R : State → State → Type 0) (kept : IsKept R) where
     keeps-finished name t outcome s =
         keeps-go_on s (outputs_by name outcome s) _ (keeps-outputs_by name outcome s)
         (λ outputs u. keeps-go_on u (make_write (note_write (name_of (text_of t)) outputs) u) (λ _. give outputs)
-        (writes (note_write (name_of (text_of t)) outputs) u) (λ _ v. kept.same v))
+        (writes (note_write (name_of (text_of t)) outputs) u tt) (λ _ v. kept.same v))
 
     module _ (marks : (name : ObjectName) (outputs : List ObjectName) (s : State) → R s (state_after (mark name outputs s))) (answer : ℕ → Job → Option Outcome) (asks : (text : List ℕ) (job : Job) → Keeps R (ask answer text job)) where
       keeps-outputs_of : (name : ObjectName) (t : Parts) (hit : Option (List ObjectName)) → Keeps R (outputs_of answer name t hit)
@@ -135,12 +147,12 @@ module _ (R : State → State → Type 0) (kept : IsKept R) where
           (keeps-outputs_of name t (hit_of u.store (name_of (text_of t)) (length t.outputs)) u)
           (λ outputs v. keeps-go_on v (mark name outputs v) (λ _. give outputs) (marks name outputs v) (λ _ w. kept.same w)))
 
-      module _ (steps : (s : State) → R s (state_after (step s))) (budget : ℕ) where
+      module _ (budget : ℕ) (steps : (s : State) → s.steps < budget → R s (state_after (step s))) where
         module _ (deeper : Ref → Eval ObjectName) (deep : (r : Ref) → Keeps R (deeper r)) where
           keeps-outputs_at : (name : ObjectName) (index : ℕ) (known : Option (List ObjectName)) → Keeps R (outputs_at answer budget deeper name index known)
           keeps-outputs_at name index (Some outputs) s = kept.same s
           keeps-outputs_at name index None s =
-              keeps-go_on s (entered budget name index s) _ (keeps-entered steps budget name index s)
+              keeps-go_on s (entered budget name index s) _ (keeps-entered budget steps name index s)
               (λ t u. keeps-go_on u (each deeper (refs_of t) u) (λ values. reduce answer name (resolved_by t values))
               (keeps-each deeper (refs_of t) deep u) (λ values. keeps-reduce name (resolved_by t values)))
 
@@ -152,7 +164,7 @@ module _ (R : State → State → Type 0) (kept : IsKept R) where
           pub keeps-passed : (kind : Kind) (output : ObjectName) → Keeps R (passed answer budget deeper kind output)
           keeps-passed kinds.Value output s = kept.same s
           keeps-passed kinds.Thunk output s =
-              keeps-go_on s (count budget output s) (λ _. deeper (Out output 0)) (keeps-count steps budget output s) (λ _. deep (Out output 0))
+              keeps-go_on s (count budget output s) (λ _. deeper (Out output 0)) (keeps-count budget steps output s) (λ _. deep (Out output 0))
 
           pub keeps-value_by : (r : Ref) → Keeps R (value_by answer budget deeper r)
           keeps-value_by (Value name) s = keeps-held_value name s

@@ -52,8 +52,8 @@ module _ (answer : ℕ → Job → Option Outcome) (budget : ℕ) where
       keeps-go_on Grows Grows-kept s (pick inner.name inner.index outputs s) _
       (keeps-need Grows Grows-kept (slice_get outputs inner.index) (Refused (NoOutput inner.name inner.index)) s)
       (λ output t. keeps-go_on Grows Grows-kept t (passed answer budget (value_of answer budget) output.kind output t) (λ value. resume answer budget outer (inner.outer.done ++ value ∷ []) inner.outer.rest.items)
-      (keeps-passed Grows Grows-kept Grows-write Grows-mark answer (Grows-ask answer) (λ u. Grows-stay u _ refl refl) budget (value_of answer budget)
-      (keeps-value_of Grows Grows-kept Grows-write Grows-mark answer (Grows-ask answer) (λ u. Grows-stay u _ refl refl) budget) output.kind output t)
+      (keeps-passed Grows Grows-kept Grows-write Grows-mark answer (Grows-ask answer) budget (λ u below. Grows-stay u _ refl refl) (value_of answer budget)
+      (keeps-value_of Grows Grows-kept Grows-write Grows-mark answer (Grows-ask answer) budget (λ u below. Grows-stay u _ refl refl)) output.kind output t)
       (λ value. resume-grows answer budget outer (inner.outer.done ++ value ∷ []) inner.outer.rest.items))
 
   -- the innermost thunk stops: so does the whole

@@ -2,6 +2,8 @@
 pub mod Keeping
 pub mod Growth
 pub mod Fuel
+pub mod Counting
+pub mod Holding
 pub mod Turns
 pub mod Leaving
 pub mod Going

@@ -1,18 +1,19 @@
 //! Laws of evaluations and of walks, for the contracts of callers.
 
-ghost use Rattle.std.specs.Prelude.{◌≡◌, ℕ, [], ◌∷◌, ◌++◌, List, Option, Ok, Err, length};
+ghost use Rattle.std.specs.Prelude.{◌≡◌, ◌≤◌, ℕ, [], ◌∷◌, ◌++◌, List, Option, Some, Ok, Err, length};
 ghost use Rattle.thunk_codec.specs.declared.job.Job.{Job};
 ghost use Rattle.thunk_codec.specs.declared.job.Outcome.{Outcome};
 ghost use Rattle.thunk_codec.specs.declared.reference.Ref.{Ref};
 ghost use Rattle.thunk_codec.specs.Outcome.{Fits};
-ghost use Rattle.blob_store.specs.Store.{Store, written};
+ghost use Rattle.object_name.specs.Name.{ObjectName};
+ghost use Rattle.blob_store.specs.Store.{Store, held, written};
 ghost use Rattle.need_eval.specs.declared.evaluating.Values.{Values};
 ghost use Rattle.need_eval.specs.declared.fault.EvalFault.{EvalFault};
 ghost use Rattle.need_eval.specs.declared.standing.Prepared.{Prepared};
 ghost use Rattle.need_eval.specs.declared.walker.Walked.TheVariants.{Ended};
 ghost use Rattle.need_eval.specs.declared.walker.Walker.{Walker};
-ghost use Rattle.need_eval.specs.Eval.{start};
-ghost use Rattle.need_eval.specs.Evaluation.{values_of, by_list};
+ghost use Rattle.need_eval.specs.Eval.{State, start};
+ghost use Rattle.need_eval.specs.Evaluation.{value_by, value_of, values_of, by_list};
 ghost use Rattle.need_eval.specs.PartWay.{state_after, Does};
 ghost use Rattle.need_eval.specs.Pieces.{RunCause};
 ghost use Rattle.need_eval.specs.Walking.{IsFresh, GoesOn, StandsAt, Advances, Supplied, Supplies, HasSteps};
@@ -88,4 +89,21 @@ pub fn progress_concludes<F: Function>()
     ensures supplying { (budget : ℕ) (refs : List Ref) (first : Store) (w : Walker) (now : Store) →
         IsProgress F.tells F.outcome budget refs first w now → (p : Prepared) → StandsAt w now p → (given : Outcome) → Fits p.job given → (F.tells p.job → given ≡ F.outcome p.job) →
         (after : Walker) (later : Store) (fault : EvalFault) → Supplies w after p given now later (Err fault) → Evaluates F.tells F.outcome budget refs first later (Err fault) }
+{}
+
+/// The value of a reference is the one by the values of those that are met on the way: the definition's recursion doesn't run out.
+pub fn values_are_by_need()
+    ensures { (answer : ℕ → Job → Option Outcome) (budget : ℕ) (r : Ref) (s : State) → value_of answer budget r s ≡ value_by answer budget (value_of answer budget) r s }
+{}
+
+/// An evaluation uses no more steps than its budget, and takes none back.
+pub fn steps_are_within()
+    ensures budget { (answer : ℕ → Job → Option Outcome) (budget : ℕ) (refs : List Ref) (s : State) → s.steps ≤ budget → (state_after (values_of answer budget refs s)).steps ≤ budget }
+    ensures grow { (answer : ℕ → Job → Option Outcome) (budget : ℕ) (refs : List Ref) (s : State) → s.steps ≤ (state_after (values_of answer budget refs s)).steps }
+{}
+
+/// What is held stays held, with its bytes.
+pub fn held_stays()
+    ensures { (answer : ℕ → Job → Option Outcome) (budget : ℕ) (refs : List Ref) (s : State) (name : ObjectName) (bytes : List ℕ) →
+        held s.store.objects name ≡ Some bytes → held (state_after (values_of answer budget refs s)).store.objects name ≡ Some bytes }
 {}

@@ -1,0 +1,5 @@
+use Rattle.need_eval.proofs.Holding.{values_of-hold}
+use Rattle.need_eval.proofs.laws.held_stays.Goals as goal
+
+pub returns : goal.returns
+returns c = values_of-hold
