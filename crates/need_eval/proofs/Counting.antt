@@ -1,5 +1,5 @@
 -- The steps that an evaluation uses: no fewer than before, and no more than the budget.
-use Rattle.std.proofs.Common.{◌≤◌, ◌<◌, ℕ, List, Option, Some, None, length, arith}
+use Rattle.std.proofs.Common.{◌≤◌, ◌<◌, ℕ, List, Option, length, arith}
 use Rattle.thunk_codec.specs.declared.reference.Ref.{Ref}
 use Rattle.thunk_codec.specs.declared.job.Job.{Job}
 use Rattle.thunk_codec.specs.declared.job.Outcome.{Outcome}

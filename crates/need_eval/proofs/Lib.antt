@@ -4,6 +4,8 @@ pub mod Growth
 pub mod Fuel
 pub mod Counting
 pub mod Holding
+pub mod ThunkJobs
+pub mod Giving
 pub mod Turns
 pub mod Leaving
 pub mod Going

@@ -1,10 +1,15 @@
 //! Laws of evaluations and of walks, for the contracts of callers.
 
-ghost use Rattle.std.specs.Prelude.{◌≡◌, ◌≤◌, ℕ, [], ◌∷◌, ◌++◌, List, Option, Some, Ok, Err, length};
+ghost use Rattle.std.specs.Prelude.{◌≡◌, ◌≤◌, ℕ, [], ◌∷◌, ◌++◌, List, Option, Some, IsSome, Ok, Err, length};
+ghost use Rattle.std.specs.List.{AllByRecursion};
 ghost use Rattle.thunk_codec.specs.declared.job.Job.{Job};
 ghost use Rattle.thunk_codec.specs.declared.job.Outcome.{Outcome};
 ghost use Rattle.thunk_codec.specs.declared.reference.Ref.{Ref};
 ghost use Rattle.thunk_codec.specs.Outcome.{Fits};
+ghost use Rattle.thunk_codec.specs.Job.{ref_name, job_size, resolved_size};
+ghost use Rattle.thunk_codec.specs.Reference.{IsRef};
+ghost use Rattle.thunk_codec.specs.Resolved.{refs_of, HaveValueKind};
+ghost use Rattle.thunk_codec.specs.Thunk.{Parts};
 ghost use Rattle.object_name.specs.Name.{ObjectName};
 ghost use Rattle.blob_store.specs.Store.{Store, held, written};
 ghost use Rattle.need_eval.specs.declared.evaluating.Values.{Values};
@@ -12,8 +17,8 @@ ghost use Rattle.need_eval.specs.declared.fault.EvalFault.{EvalFault};
 ghost use Rattle.need_eval.specs.declared.standing.Prepared.{Prepared};
 ghost use Rattle.need_eval.specs.declared.walker.Walked.TheVariants.{Ended};
 ghost use Rattle.need_eval.specs.declared.walker.Walker.{Walker};
-ghost use Rattle.need_eval.specs.Eval.{State, start};
-ghost use Rattle.need_eval.specs.Evaluation.{value_by, value_of, values_of, by_list};
+ghost use Rattle.need_eval.specs.Eval.{State, Got, start};
+ghost use Rattle.need_eval.specs.Evaluation.{job_of, value_by, value_of, values_of, by_list};
 ghost use Rattle.need_eval.specs.PartWay.{state_after, Does};
 ghost use Rattle.need_eval.specs.Pieces.{RunCause};
 ghost use Rattle.need_eval.specs.Walking.{IsFresh, GoesOn, StandsAt, Advances, Supplied, Supplies, HasSteps};
@@ -106,4 +111,20 @@ pub fn steps_are_within()
 pub fn held_stays()
     ensures { (answer : ℕ → Job → Option Outcome) (budget : ℕ) (refs : List Ref) (s : State) (name : ObjectName) (bytes : List ℕ) →
         held s.store.objects name ≡ Some bytes → held (state_after (values_of answer budget refs s)).store.objects name ≡ Some bytes }
+{}
+
+/// The length of a job's encoding is known before any object is read, by the sizes in the names of its thunk.
+pub fn job_lengths_are_known()
+    ensures { (t : Parts) (s : State) (u : State) (job : Job) → job_of t s ≡ Got job u → job_size job ≡ resolved_size t }
+{}
+
+/// A job is made where all objects of its thunk are held.
+pub fn jobs_are_made()
+    ensures { (t : Parts) (s : State) → AllByRecursion (λ r. IsSome (held s.store.objects (ref_name r))) (refs_of t) → (job : Job) × (job_of t s ≡ Got job s) }
+{}
+
+/// Values have names of values.
+pub fn one_answer()
+    ensures { (answer : ℕ → Job → Option Outcome) (budget : ℕ) (refs : List Ref) (s : State) (names : List ObjectName) (t : State) →
+        AllByRecursion IsRef refs → values_of answer budget refs s ≡ Got names t → HaveValueKind names }
 {}

@@ -1,0 +1,5 @@
+use Rattle.need_eval.proofs.ThunkJobs.{job-length}
+use Rattle.need_eval.proofs.laws.job_lengths_are_known.Goals as goal
+
+pub returns : goal.returns
+returns c = job-length
