@@ -1,5 +1,5 @@
 -- What is held stays held, with its bytes, through a whole evaluation.
-use Rattle.std.proofs.Common.{◌≡◌, ℕ, List, Option, Some, None, sym, ap, ◌∙◌, length}
+use Rattle.std.proofs.Common.{◌≡◌, ℕ, List, Option, Some, sym, ap, ◌∙◌, length}
 use Rattle.object_name.specs.Name.{ObjectName}
 use Rattle.thunk_codec.specs.declared.reference.Ref.{Ref}
 use Rattle.thunk_codec.specs.declared.job.Job.{Job}
