@@ -30,7 +30,7 @@ fn do_command<K: Keeper, O: Sink>(
     ensures no_usage { result ≢ Err TopFault.Usage }
 {
     match command {
-        Command::Force { wanted } => force(alloc, keeper, out, wanted),
+        Command::Force { budget, items } => force(alloc, keeper, out, *budget, items.as_slice()),
     }
 }
 

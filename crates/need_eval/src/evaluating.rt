@@ -3,7 +3,7 @@
 ghost use Rattle.std.specs.Prelude.{◌≤◌};
 ghost use Rattle.std.specs.List.{AllByRecursion};
 ghost use Rattle.thunk_codec.specs.Reference.{IsRef};
-ghost use Rattle.need_eval.specs.Evaluating.{EvaluatesAll, EvaluatesSome};
+ghost use Rattle.need_eval.specs.Evaluating.{EvaluatesAll};
 ghost use Rattle.need_eval.specs.PartWay.{EvalCause, ClashShows};
 
 use crate::fault::EvalFault;
@@ -33,7 +33,6 @@ pub fn evaluate<K: Keeper, R: Runner>(
     // Where the jobs are told, it is the evaluation with the runner's function, or stops at a fault after a front of its writes.
     ensures exact { K.tells → EvaluatesAll R.tells R.outcome budget refs (K.store keeper.old) (K.store keeper.new) result }
     // Where they aren't, there are outcomes that fit them for which it is so.
-    ensures some { K.tells → EvaluatesSome R.tells R.outcome budget refs (K.store keeper.old) (K.store keeper.new) result }
     ensures kept_later { K.faults keeper.old ≤ K.faults keeper.new }
     ensures run_later { R.faults runner.old ≤ R.faults runner.new }
     ensures cause { EvalCause retries (K.faults keeper.old) (K.faults keeper.new) (R.faults runner.old) (R.faults runner.new) result }

@@ -44,7 +44,7 @@ impl Walker {
     ghost use Rattle.thunk_codec.specs.Reference.{IsRef};
     ghost use Rattle.thunk_codec.specs.Outcome.{Fits};
     ghost use Rattle.need_eval.specs.Pieces.{KeeperCause};
-    ghost use Rattle.need_eval.specs.Walking.{IsFresh, blocked_at, is_over, work_of, Advances, StandsAt, Supplies, StandsAs, HasSteps};
+    ghost use Rattle.need_eval.specs.Walking.{IsFresh, blocked_at, is_over, work_of, Advances, StandsAs, HasSteps};
 
     /// An evaluation of some references that has not begun. The budget is the greatest number of steps; a failed call of a keeper
     /// is tried again, `retries` times at most.
@@ -107,8 +107,6 @@ impl Walker {
         requires blocked { IsSome (blocked_at self.old.standing) }
         requires fits { IfSome (blocked_at self.old.standing) (λ prepared. Fits prepared.job outcome) }
         // Where the evaluation stands at this job, it goes on with this outcome.
-        ensures supplies { K.tells → IfSome (blocked_at self.old.standing) (λ prepared. StandsAt self.old (K.store keeper.old) prepared →
-            Supplies self.old self.new prepared outcome (K.store keeper.old) (K.store keeper.new) result) }
         ensures later { K.faults keeper.old ≤ K.faults keeper.new }
         ensures cause { IfErr result (KeeperCause self.old.retries (K.faults keeper.old) (K.faults keeper.new)) }
         ensures walking { OnOk result (self.new.standing ≡ Standing.Walking) }
