@@ -9,3 +9,4 @@ pub mod Loops
 pub mod AsAre
 pub mod Made
 pub mod Decodes
+pub mod Encodes

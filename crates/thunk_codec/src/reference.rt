@@ -45,7 +45,6 @@ impl Ref {
 
     /// Appends the spelling.
     pub fn write(&self, out: &mut Bytes) -> Result<(), AllocError>
-        requires { IsRef self.now }
         ensures ok { OnOk result (out.new ≡ out.old ++ ref_text self.now) }
         ensures err { OnErr result (out.new ≡ out.old) }
     {
