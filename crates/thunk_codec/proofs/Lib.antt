@@ -10,3 +10,4 @@ pub mod AsAre
 pub mod Made
 pub mod Decodes
 pub mod Encodes
+pub mod Resolves

@@ -1,6 +1,7 @@
 //! References to objects: values by name, and outputs of thunks.
 
-ghost use Rattle.std.specs.Prelude.{◌≡◌, ◌++◌, ◌∷◌, ◌<◌, take, length, decimal, IfSome, Some, OnOk, OnErr};
+ghost use Rattle.std.specs.Prelude.{◌≡◌, ◌↔◌, ◌++◌, ◌∷◌, ◌<◌, IsTrue, take, length, decimal, IfSome, Some, OnOk, OnErr};
+ghost use Rattle.object_name.specs.Name.{IsName};
 ghost use Rattle.thunk_codec.specs.declared.reference.Ref.{Ref};
 ghost use Rattle.thunk_codec.specs.Reference.{IsRef, ref_text, ref_of, value_ref_of, out_ref_of};
 ghost use Rattle.thunk_codec.specs.Job.{ref_name};
@@ -60,6 +61,24 @@ impl Ref {
 impl TryCopy for Ref {
     fn copy(&self, _alloc: Global) -> Result<Self, AllocError> {
         Ok(*self)
+    }
+}
+
+/// Tells contracts what the type keeps of a name.
+pub fn vouch(name: &Name)
+    ensures { IsName name.now }
+{
+    name.spell(&mut [0; SPELLING]);
+}
+
+/// Whether a reference names an object of its kind.
+pub fn is_ref(reference: &Ref) -> bool
+    ensures { IsTrue result ↔ IsRef reference.now }
+{
+    vouch(reference.name());
+    match reference {
+        Ref::Value(name) => name.kind() == Kind::Value,
+        Ref::Out(name, _) => name.kind() == Kind::Thunk,
     }
 }
 
