@@ -11,3 +11,4 @@ pub mod Made
 pub mod Decodes
 pub mod Encodes
 pub mod Resolves
+pub mod Makes

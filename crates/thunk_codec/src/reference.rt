@@ -3,6 +3,7 @@
 ghost use Rattle.std.specs.Prelude.{◌≡◌, ◌↔◌, ◌++◌, ◌∷◌, ◌<◌, IsTrue, take, length, decimal, IfSome, Some, OnOk, OnErr};
 ghost use Rattle.object_name.specs.Name.{IsName};
 ghost use Rattle.thunk_codec.specs.declared.reference.Ref.{Ref};
+ghost use Rattle.thunk_codec.specs.declared.reference.Ref.TheVariants.{Value, Out};
 ghost use Rattle.thunk_codec.specs.Reference.{IsRef, ref_text, ref_of, value_ref_of, out_ref_of};
 ghost use Rattle.thunk_codec.specs.Job.{ref_name};
 
@@ -71,14 +72,29 @@ pub fn vouch(name: &Name)
     name.spell(&mut [0; SPELLING]);
 }
 
+/// Whether a value may have this name.
+fn is_value(name: &Name) -> bool
+    ensures { IsTrue result ↔ IsRef (Value name.now) }
+{
+    vouch(name);
+    name.kind() == Kind::Value
+}
+
+/// Whether a thunk may have this name, of which this is an output.
+fn is_output(name: &Name, _index: u32) -> bool
+    ensures { IsTrue result ↔ IsRef (Out name.now _index) }
+{
+    vouch(name);
+    name.kind() == Kind::Thunk
+}
+
 /// Whether a reference names an object of its kind.
 pub fn is_ref(reference: &Ref) -> bool
     ensures { IsTrue result ↔ IsRef reference.now }
 {
-    vouch(reference.name());
     match reference {
-        Ref::Value(name) => name.kind() == Kind::Value,
-        Ref::Out(name, _) => name.kind() == Kind::Thunk,
+        Ref::Value(name) => is_value(name),
+        Ref::Out(name, index) => is_output(name, *index),
     }
 }
 
