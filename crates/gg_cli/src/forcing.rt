@@ -1,8 +1,8 @@
 //! Forcing: values of references, from the store to the output.
 
-ghost use Rattle.std.specs.Prelude.{◌≡◌, ◌≢◌, [], ℕ, All, Err, IfOk, IfErr};
+ghost use Rattle.std.specs.Prelude.{◌≡◌, ◌≢◌, [], ℕ, All, Err, IfOk, IfErr, bytes_eq};
 ghost use Rattle.std.specs.Option.{option_map};
-ghost use Rattle.thunk_codec.specs.Reference.{IsRef};
+ghost use Rattle.thunk_codec.specs.Reference.{IsRef, ref_text};
 ghost use Rattle.need_eval.specs.Eval.{start};
 ghost use Rattle.need_eval.specs.Evaluation.{values_of, by_function};
 ghost use Rattle.gg_cli.specs.Cat.{tool_outcome};
@@ -66,13 +66,27 @@ fn find_values<K: Keeper>(
     }
 }
 
+/// Whether two references are one, and so spelled the same.
+fn is_same(a: &Ref, b: &Ref) -> bool
+    requires a { IsRef a.now }
+    requires b { IsRef b.now }
+    ensures { result ≡ bytes_eq (ref_text a.now) (ref_text b.now) }
+{
+    a == b
+}
+
 /// Whether a reference stands among some.
 fn contains(earlier: &[Ref], item: &Ref) -> bool
     requires earlier { All IsRef earlier.now }
     requires item { IsRef item.now }
     ensures { result ≡ stands_in earlier.now item.now }
 {
-    earlier.contains(item)
+    'others: for other in earlier {
+        if is_same(other, item) {
+            return true;
+        }
+    }
+    false
 }
 
 /// The first of some references that stands before it too.
