@@ -1,8 +1,8 @@
 //! Forcing: values of references, from the store to the output.
 
-ghost use Rattle.std.specs.Prelude.{◌≡◌, ◌≢◌, [], ℕ, All, Err, IfOk, IfErr, bytes_eq};
+ghost use Rattle.std.specs.Prelude.{◌≡◌, ◌≢◌, [], ℕ, All, Err, IfOk, IfErr, IsTrue, ◌↔◌};
 ghost use Rattle.std.specs.Option.{option_map};
-ghost use Rattle.thunk_codec.specs.Reference.{IsRef, ref_text};
+ghost use Rattle.thunk_codec.specs.Reference.{IsRef};
 ghost use Rattle.need_eval.specs.Eval.{start};
 ghost use Rattle.need_eval.specs.Evaluation.{values_of, by_function};
 ghost use Rattle.gg_cli.specs.Cat.{tool_outcome};
@@ -66,13 +66,11 @@ fn find_values<K: Keeper>(
     }
 }
 
-/// Whether two references are one, and so spelled the same.
-fn is_same(a: &Ref, b: &Ref) -> bool
-    requires a { IsRef a.now }
-    requires b { IsRef b.now }
-    ensures { result ≡ bytes_eq (ref_text a.now) (ref_text b.now) }
+/// Whether two references are one.
+fn is_same(reference: &Ref, other: &Ref) -> bool
+    ensures { IsTrue result ↔ (reference.now ≡ other.now) }
 {
-    a == b
+    reference == other
 }
 
 /// Whether a reference stands among some.
