@@ -1,12 +1,11 @@
 -- Reading words, one after another.
-use Rattle.std.proofs.Common.{◌≡◌, ℕ, ◌+◌, ◌<◌, ◌≤◌, List, [], ◌∷◌, ◌++◌, length, map, drop, get_or, Bool, true, false, Option, Some, None, Result, Ok, Err, IsErrOf, inl, inr, refl, sym, ap, ◌∙◌, append_assoc, append-nil, arith}
+use Rattle.std.proofs.Common.{◌≡◌, ℕ, ◌+◌, ◌<◌, ◌≤◌, List, [], ◌∷◌, ◌++◌, length, map, drop, get_or, true, false, Option, Some, None, Result, Ok, Err, IsErrOf, inl, inr, refl, sym, ap, ◌∙◌, append_assoc, append-nil, arith}
 use Rattle.std.specs.Prelude.{IfOk, bytes_eq, codes}
 use Rattle.std.proofs.lemmas.Bool.{cases_Bool}
 use Rattle.std.proofs.lemmas.List.{drop_more, drop_all}
 use Rattle.thunk_codec.specs.declared.reference.Ref.{Ref}
 use Rattle.thunk_codec.specs.Maybe.{◌>>=◌}
 use Rattle.thunk_codec.specs.Reference.{ref_of}
-use Rattle.gg_cli.specs.declared.words.Command.{Command}
 use Rattle.gg_cli.specs.declared.words.WordFault.{WordFault}
 use Rattle.gg_cli.specs.declared.words.WordFault.TheVariants.{Usage, Memory}
 use Rattle.gg_cli.specs.Words.{refs_in, local_of, command_of}

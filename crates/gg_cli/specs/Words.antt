@@ -1,5 +1,5 @@
 -- Command lines, by their words.
-use Rattle.std.specs.Prelude.{ℕ, List, [], ◌∷◌, length, nat_le, ◌&&◌, Option, Some, None, bytes_eq, codes, option_and_then, if◌then◌else◌}
+use Rattle.std.specs.Prelude.{ℕ, List, [], ◌∷◌, length, nat_le, ◌&&◌, Option, Some, None, bytes_eq, codes, if◌then◌else◌}
 use Rattle.object_name.specs.Number.{number_of}
 use Rattle.thunk_codec.specs.declared.reference.Ref.{Ref}
 use Rattle.thunk_codec.specs.Maybe.{◌>>=◌, ◌>>◌, check}

@@ -1,4 +1,4 @@
-use Rattle.std.proofs.Common.{◌≡◌, ◌≤◌, ◌-◌, [], length, take, drop}
+use Rattle.std.proofs.Common.{◌≡◌, ◌-◌, [], length, take, drop}
 use Rattle.gg_cli.specs.Answer.{first_repeated}
 use Rattle.gg_cli.proofs.forcing.find_repeated.Given as goal
 

@@ -1,4 +1,4 @@
-use Rattle.std.proofs.Common.{sym, ◌∙◌, ap, string_bytes}
+use Rattle.std.proofs.Common.{sym, ◌∙◌, string_bytes}
 use Rattle.std.proofs.lemmas.List.Elements.{All-push}
 use Rattle.thunk_codec.specs.Reference.{IsRef}
 use Rattle.gg_cli.proofs.WordLemmas.{ReadsRefs-more, ReadsRefs-stop, ReadsRefs-all}
