@@ -12,7 +12,7 @@ use Rattle.need_eval.specs.declared.fault.Refusal.{Refusal}
 use Rattle.need_eval.specs.declared.fault.Refusal.TheVariants as refusals
 use Rattle.need_eval.specs.declared.fault.EvalFault.{EvalFault}
 use Rattle.need_eval.specs.declared.fault.EvalFault.TheVariants as faults
-use Rattle.need_eval.specs.Eval.{Ended, Got, Stopped, Stop, Refused, NotBuilt, Clash, start}
+use Rattle.need_eval.specs.Eval.{Ended, Got, Stopped, Stop, Refused, Clash, start}
 use Rattle.need_eval.specs.Evaluation.{values_of, by_function}
 use Rattle.need_eval.specs.declared.evaluating.Values.{Values}
 use Rattle.need_eval.specs.Evaluating.{EvaluatesAll}
@@ -22,7 +22,7 @@ use Rattle.need_eval.proofs.Growth.{store_is_written}
 use Rattle.gg_cli.specs.declared.fault.TopFault.{TopFault}
 use Rattle.gg_cli.specs.declared.fault.TopFault.TheVariants as tops
 use Rattle.gg_cli.specs.Texts.{fault_line, refusal_text, stop_text}
-use Rattle.gg_cli.specs.Answer.{Answer, forced, refusal_status, stop_status, default_budget}
+use Rattle.gg_cli.specs.Answer.{Answer, forced, refusal_status, stop_status}
 use Rattle.gg_cli.specs.Faults.{IsFaultOf}
 use Rattle.gg_cli.specs.Comes.{Made, MadeFront, IsWhole}
 use Rattle.gg_cli.specs.Ending.{EndsAt, HasValues}
@@ -42,6 +42,7 @@ refused_ends a m (refusals.Missing name) comes line = record { comes = comes; li
 refused_ends a m (refusals.BadThunk name) comes line = record { comes = comes; line = line }
 refused_ends a m (refusals.NoOutput name index) comes line = record { comes = comes; line = line }
 refused_ends a m (refusals.Spent name budget) comes line = record { comes = comes; line = line }
+refused_ends a m (refusals.TooBig name bytes) comes line = record { comes = comes; line = line }
 refused_ends a m (refusals.FunctionFailed name status) comes line = record { comes = comes; line = line }
 
 -- the answer's writes are those of the evaluation
@@ -78,22 +79,21 @@ module _ (refs : List Ref) (e : Ended (List ObjectName)) (before after : Store) 
       → EndsAt (forced refs e) (record { before = before; after = after; out_before = told; out_after = told }) top
   ends_at (faults.Refused refusal) top told h is =
       rw is (refused_ends _ _ refusal (stopped_whole (Refused refusal) told h) (stopped_line (Refused refusal) h))
-  ends_at (faults.NotBuilt name) top told h is = rw is (record { comes = stopped_whole (NotBuilt name) told h; line = stopped_line (NotBuilt name) h })
   ends_at (faults.Clash name found fresh) top told h is = rw is (record { comes = stopped_whole (Clash name found fresh) told h; line = stopped_line (Clash name found fresh) h })
   ends_at faults.StoreFailed top told h is = rw is (record { comes = record { writes = made_front told h; no_text = Appends-nil told }; line = refl })
   ends_at faults.RunFailed top told h is = absurd is
   ends_at faults.Memory top told h is = rw is (record { comes = record { writes = made_front told h; text = AppendsFront-nil told _ }; line = refl })
 
-module _ (given items : List Ref) (same : given ≡ items) (before after : Store) where
+module _ (budget : ℕ) (given items : List Ref) (same : given ≡ items) (before after : Store) where
   -- `evaluate` gave values
-  pub values_found : (values : Values) → EvaluatesAll (λ job. Unit {0}) tool_outcome default_budget given before after (Ok values)
-      → HasValues (forced items (values_of (by_function tool_outcome) default_budget items (start before))) values.names items before after
+  pub values_found : (values : Values) → EvaluatesAll (λ job. Unit {0}) tool_outcome budget given before after (Ok values)
+      → HasValues (forced items (values_of (by_function tool_outcome) budget items (start before))) values.names items before after
   values_found values exact = let does = rw same at exact in
-      has_values items _ before after (store_is_written (by_function tool_outcome) default_budget items before) values.names values.steps (does (all_told _))
+      has_values items _ before after (store_is_written (by_function tool_outcome) budget items before) values.names values.steps (does (all_told _))
 
   -- `evaluate` ended at a fault
-  pub fault_found : (fault : EvalFault) (top : TopFault) → EvaluatesAll (λ job. Unit {0}) tool_outcome default_budget given before after (Err fault) → IsFaultOf fault top
+  pub fault_found : (fault : EvalFault) (top : TopFault) → EvaluatesAll (λ job. Unit {0}) tool_outcome budget given before after (Err fault) → IsFaultOf fault top
       → (told : Option (List ℕ))
-      → EndsAt (forced items (values_of (by_function tool_outcome) default_budget items (start before))) (record { before = before; after = after; out_before = told; out_after = told }) top
+      → EndsAt (forced items (values_of (by_function tool_outcome) budget items (start before))) (record { before = before; after = after; out_before = told; out_after = told }) top
   fault_found fault top exact is told = let does = rw same at exact in
-      ends_at items _ before after (store_is_written (by_function tool_outcome) default_budget items before) fault top told (does (all_told _)) is
+      ends_at items _ before after (store_is_written (by_function tool_outcome) budget items before) fault top told (does (all_told _)) is

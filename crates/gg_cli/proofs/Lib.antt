@@ -2,3 +2,5 @@ pub mod WritingLemmas
 pub mod ForcingLemmas
 pub mod PrintingLemmas
 pub mod TopLemmas
+pub mod WordLemmas
+pub mod Repeats

@@ -9,7 +9,7 @@ use Rattle.need_eval.specs.declared.fault.Refusal.TheVariants as refusals
 use Rattle.gg_cli.specs.declared.fault.TopFault.{TopFault}
 use Rattle.gg_cli.specs.declared.fault.TopFault.TheVariants as tops
 use Rattle.gg_cli.specs.declared.status.Status.{Status}
-use Rattle.gg_cli.specs.declared.status.Status.TheVariants.{Done, FunctionFailed, Usage, Missing, BadThunk, NoOutput, Spent, Clash, StoreFault, ByteFault, Memory, NotBuilt}
+use Rattle.gg_cli.specs.declared.status.Status.TheVariants.{Done, FunctionFailed, Usage, Missing, BadThunk, NoOutput, Spent, TooBig, FileRefused, Clash, StoreFault, ByteFault, Memory}
 use Rattle.gg_cli.specs.declared.words.Command.{Command}
 use Rattle.gg_cli.specs.Words.{command_of}
 use Rattle.gg_cli.specs.Texts.{fault_line}
@@ -67,8 +67,9 @@ Comes-memory a m Missing h = whole_memory a m _ h
 Comes-memory a m BadThunk h = whole_memory a m _ h
 Comes-memory a m NoOutput h = whole_memory a m _ h
 Comes-memory a m Spent h = whole_memory a m _ h
+Comes-memory a m TooBig h = whole_memory a m _ h
+Comes-memory a m FileRefused h = whole_memory a m _ h
 Comes-memory a m Clash h = whole_memory a m _ h
-Comes-memory a m NotBuilt h = whole_memory a m _ h
 
 -- ---- the status and the line
 
@@ -92,12 +93,13 @@ module _ (a : Answer) (m : Made) (fault : TopFault) (status : Status) (b c : Opt
 -- a fault's line is what its status says
 fault_says : (a : Answer) (fault : TopFault) (b c : Option (List ℕ)) (f g : ℕ) → SaysFront a b c → SaysWhole (status_line a (fault_status fault)) b c f g → Says a (fault_status fault) b c f g
 fault_says a tops.Usage b c f g front whole = whole
+fault_says a (tops.Twice item) b c f g front whole = whole
 fault_says a (tops.Refused (refusals.Missing name)) b c f g front whole = whole
 fault_says a (tops.Refused (refusals.BadThunk name)) b c f g front whole = whole
 fault_says a (tops.Refused (refusals.NoOutput name index)) b c f g front whole = whole
 fault_says a (tops.Refused (refusals.Spent name budget)) b c f g front whole = whole
+fault_says a (tops.Refused (refusals.TooBig name bytes)) b c f g front whole = whole
 fault_says a (tops.Refused (refusals.FunctionFailed name status)) b c f g front whole = whole
-fault_says a (tops.NotBuilt name) b c f g front whole = whole
 fault_says a (tops.Clash name) b c f g front whole = whole
 fault_says a tops.StoreFailed b c f g front whole = whole
 fault_says a tops.OutputFailed b c f g front whole = whole

@@ -1,4 +1,5 @@
 pub mod Words
+pub mod Reading
 pub mod Cat
 pub mod CatFits
 pub mod Texts

@@ -4,8 +4,8 @@ use Rattle.object_name.specs.Name.{ObjectName, spelling}
 use Rattle.thunk_codec.specs.declared.reference.Ref.{Ref}
 use Rattle.thunk_codec.specs.Reference.{ref_text}
 use Rattle.need_eval.specs.declared.fault.Refusal.{Refusal}
-use Rattle.need_eval.specs.declared.fault.Refusal.TheVariants.{Missing, BadThunk, NoOutput, Spent, FunctionFailed}
-use Rattle.need_eval.specs.Eval.{Stop, Refused, NotBuilt, Clash, Stands}
+use Rattle.need_eval.specs.declared.fault.Refusal.TheVariants.{Missing, BadThunk, NoOutput, Spent, TooBig, FunctionFailed}
+use Rattle.need_eval.specs.Eval.{Stop, Refused, Clash, Stands}
 
 -- the line of a fault
 abbrev pub fault_line : List ℕ → List ℕ
@@ -33,14 +33,18 @@ refusal_text (Missing name) = codes "missing object " ++ spelling name
 refusal_text (BadThunk name) = codes "bad thunk " ++ spelling name
 refusal_text (NoOutput name index) = codes "no output " ++ (decimal index ++ (codes " of " ++ spelling name))
 refusal_text (Spent name budget) = codes "budget of " ++ (decimal budget ++ (codes " steps spent at " ++ spelling name))
+refusal_text (TooBig name bytes) = codes "job too big: " ++ (spelling name ++ (32 ∷ decimal bytes))
 refusal_text (FunctionFailed name status) = codes "function failed: " ++ (spelling name ++ (codes " status " ++ decimal status))
 
 -- why an evaluation stops; with one function it never stands at a job
 abbrev pub stop_text : Stop → List ℕ
 stop_text (Refused refusal) = refusal_text refusal
-stop_text (NotBuilt name) = codes "not built yet: " ++ spelling name
 stop_text (Clash name found fresh) = codes "two objects named " ++ spelling name
-stop_text (Stands job) = []
+stop_text (Stands text job) = []
+
+-- an item stands twice
+abbrev pub twice_text : Ref → List ℕ
+twice_text item = codes "twice: " ++ ref_text item
 
 -- a value's name, a space, the item, and a line feed
 abbrev pub value_line : ObjectName → Ref → List ℕ

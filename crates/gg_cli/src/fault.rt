@@ -8,16 +8,17 @@ use crate::status::Status;
 use need_eval::Refusal;
 use object_name::Name;
 use std::alloc::{AllocError, AllocFailed};
+use thunk_codec::Ref;
 
 /// Why a command line isn't done.
 #[derive(Clone, Copy, Debug, PartialEq, Eq)]
 pub(crate) enum TopFault {
     /// The words are no command line.
     Usage,
+    /// An item stands twice.
+    Twice(Ref),
     /// What was wanted is refused.
     Refused(Refusal),
-    /// The reduction of this thunk needs what isn't built yet.
-    NotBuilt(Name),
     /// Other bytes are held under the name of an output.
     Clash(Name),
     /// The keeper failed.
@@ -53,6 +54,7 @@ fn refusal_status(refusal: &Refusal) -> Status
         Refusal::BadThunk(_) => Status::BadThunk,
         Refusal::NoOutput { .. } => Status::NoOutput,
         Refusal::Spent { .. } => Status::Spent,
+        Refusal::TooBig { .. } => Status::TooBig,
         Refusal::FunctionFailed { .. } => Status::FunctionFailed,
     }
 }
@@ -66,8 +68,8 @@ impl TopFault {
     {
         match self {
             TopFault::Usage => Status::Usage,
+            TopFault::Twice(_) => Status::FileRefused,
             TopFault::Refused(refusal) => refusal_status(refusal),
-            TopFault::NotBuilt(_) => Status::NotBuilt,
             TopFault::Clash(_) => Status::Clash,
             TopFault::StoreFailed => Status::StoreFault,
             TopFault::OutputFailed => Status::ByteFault,

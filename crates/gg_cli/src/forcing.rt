@@ -1,12 +1,12 @@
-//! The command `force`: evaluation, and what is printed of it.
+//! Forcing: values of references, from the store to the output.
 
-ghost use Rattle.std.specs.Prelude.{◌≢◌, ◌∷◌, [], ℕ, Err};
-ghost use Rattle.thunk_codec.specs.declared.reference.Ref.{Ref};
+ghost use Rattle.std.specs.Prelude.{◌≡◌, ◌≢◌, [], ℕ, All, Err, IfOk, IfErr, IsTrue, ◌↔◌};
+ghost use Rattle.std.specs.Option.{option_map};
 ghost use Rattle.thunk_codec.specs.Reference.{IsRef};
 ghost use Rattle.need_eval.specs.Eval.{start};
 ghost use Rattle.need_eval.specs.Evaluation.{values_of, by_function};
 ghost use Rattle.gg_cli.specs.Cat.{tool_outcome};
-ghost use Rattle.gg_cli.specs.Answer.{forced, default_budget};
+ghost use Rattle.gg_cli.specs.Answer.{forced, forced_once, first_repeated, stands_in};
 ghost use Rattle.gg_cli.specs.Faults.{IsFaultOf};
 ghost use Rattle.gg_cli.specs.Ending.{Ends, Values, EndCause};
 
@@ -19,9 +19,6 @@ use object_name::{Many, Name, Sink, Trouble};
 use std::alloc::Global;
 use thunk_codec::Ref;
 
-/// The greatest number of steps.
-const BUDGET: u32 = 65_536;
-
 /// The fault that an evaluation ended with.
 fn fault_of(fault: &EvalFault) -> TopFault
     requires { fault.now ≢ EvalFault.RunFailed }
@@ -30,7 +27,6 @@ fn fault_of(fault: &EvalFault) -> TopFault
 {
     match fault {
         EvalFault::Refused(refusal) => TopFault::Refused(*refusal),
-        EvalFault::NotBuilt(name) => TopFault::NotBuilt(*name),
         EvalFault::Clash { name, .. } => TopFault::Clash(*name),
         EvalFault::StoreFailed => TopFault::StoreFailed,
         EvalFault::RunFailed => unreachable!(),
@@ -38,43 +34,113 @@ fn fault_of(fault: &EvalFault) -> TopFault
     }
 }
 
-/// The value of a reference, as a list of one name.
+/// Copies of some references, in order.
+fn copy_refs(alloc: Global, items: &[Ref]) -> Result<Many<Ref>, TopFault>
+    ensures same { IfOk result (λ copies. copies ≡ items.now) }
+    ensures memory { IfErr result (λ fault. fault ≡ TopFault.Memory) }
+{
+    let mut copies = Many::new(alloc);
+    'copied: for item in items {
+        copies.push(*item)?;
+    }
+    Ok(copies)
+}
+
+/// The values of references, in order.
 fn find_values<K: Keeper>(
     alloc: Global,
     keeper: &mut K,
-    wanted: &Ref,
+    budget: u32,
+    items: &[Ref],
 ) -> Result<Many<Name>, TopFault>
-    requires { IsRef wanted.now }
-    ensures values { K.tells → Values (forced (wanted.now ∷ []) (values_of (by_function tool_outcome) default_budget (wanted.now ∷ []) (start (K.store keeper.old))))
-        (wanted.now ∷ []) (K.store keeper.old) (K.store keeper.new) result }
+    requires { All IsRef items.now }
+    ensures values { K.tells → Values (forced items.now (values_of (by_function tool_outcome) budget items.now (start (K.store keeper.old))))
+        items.now (K.store keeper.old) (K.store keeper.new) result }
     ensures cause { (printed : ℕ) → EndCause (K.faults keeper.old) (K.faults keeper.new) printed printed result }
     ensures no_usage { result ≢ Err TopFault.Usage }
 {
-    let mut refs = Many::new(alloc);
-    refs.push(*wanted)?;
-    match evaluate(alloc, keeper, refs, BUDGET, 0, &mut CatRunner) {
+    let refs = copy_refs(alloc, items)?;
+    match evaluate(alloc, keeper, refs, budget, 0, &mut CatRunner) {
         Ok(values) => Ok(values.names),
         Err(fault) => Err(fault_of(&fault)),
     }
 }
 
-/// Does `force`: the value's line goes to the output.
-pub(crate) fn force<K: Keeper, O: Sink>(
+/// Whether two references are one.
+fn is_same(reference: &Ref, other: &Ref) -> bool
+    ensures { IsTrue result ↔ (reference.now ≡ other.now) }
+{
+    reference == other
+}
+
+/// Whether a reference stands among some.
+fn contains(earlier: &[Ref], item: &Ref) -> bool
+    requires earlier { All IsRef earlier.now }
+    requires item { IsRef item.now }
+    ensures { result ≡ stands_in earlier.now item.now }
+{
+    'others: for other in earlier {
+        if is_same(other, item) {
+            return true;
+        }
+    }
+    false
+}
+
+/// The first of some references that stands before it too.
+fn find_repeated(items: &[Ref]) -> Option<&Ref>
+    requires { All IsRef items.now }
+    ensures { option_map (λ item. item.now) result ≡ first_repeated [] items.now }
+{
+    let mut index = 0;
+    'items: while index < items.len() {
+        let item = &items[index];
+        if contains(&items[..index], item) {
+            return Some(item);
+        }
+        index += 1;
+    }
+    None
+}
+
+/// Does `force` where no item stands twice: a line for each value goes to the output.
+fn force_each<K: Keeper, O: Sink>(
     alloc: Global,
     keeper: &mut K,
     out: &mut O,
-    wanted: &Ref,
+    budget: u32,
+    items: &[Ref],
 ) -> Result<(), TopFault>
-    requires { IsRef wanted.now }
-    ensures ends { K.tells → Ends (forced (wanted.now ∷ []) (values_of (by_function tool_outcome) default_budget (wanted.now ∷ []) (start (K.store keeper.old))))
+    requires { All IsRef items.now }
+    ensures ends { K.tells → Ends (forced items.now (values_of (by_function tool_outcome) budget items.now (start (K.store keeper.old))))
         (record { before = K.store keeper.old; after = K.store keeper.new; out_before = O.written out.old; out_after = O.written out.new }) result }
     ensures cause { EndCause (K.faults keeper.old) (K.faults keeper.new) (O.faults out.old) (O.faults out.new) result }
     ensures no_usage { result ≢ Err TopFault.Usage }
 {
-    let names = find_values(alloc, keeper, wanted)?;
-    match print_values(alloc, out, names.as_slice(), &[*wanted]) {
+    let names = find_values(alloc, keeper, budget, items)?;
+    match print_values(alloc, out, names.as_slice(), items) {
         Ok(()) => Ok(()),
         Err(Trouble::Failed) => Err(TopFault::OutputFailed),
         Err(Trouble::Memory) => Err(TopFault::Memory),
+    }
+}
+
+/// Does `force`.
+pub(crate) fn force<K: Keeper, O: Sink>(
+    alloc: Global,
+    keeper: &mut K,
+    out: &mut O,
+    budget: u32,
+    items: &[Ref],
+) -> Result<(), TopFault>
+    requires { All IsRef items.now }
+    ensures ends { K.tells → Ends (forced_once budget items.now (first_repeated [] items.now) (K.store keeper.old))
+        (record { before = K.store keeper.old; after = K.store keeper.new; out_before = O.written out.old; out_after = O.written out.new }) result }
+    ensures cause { EndCause (K.faults keeper.old) (K.faults keeper.new) (O.faults out.old) (O.faults out.new) result }
+    ensures no_usage { result ≢ Err TopFault.Usage }
+{
+    match find_repeated(items) {
+        Some(item) => Err(TopFault::Twice(*item)),
+        None => force_each(alloc, keeper, out, budget, items),
     }
 }

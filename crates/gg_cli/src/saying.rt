@@ -1,8 +1,9 @@
 //! The line of a fault, piece by piece.
 
-ghost use Rattle.std.specs.Prelude.{◌≡◌, ◌++◌, codes, decimal};
+ghost use Rattle.std.specs.Prelude.{◌≡◌, ◌++◌, ◌∷◌, codes, decimal};
 ghost use Rattle.object_name.specs.Name.{spelling};
-ghost use Rattle.gg_cli.specs.Texts.{refusal_text, fault_line};
+ghost use Rattle.thunk_codec.specs.declared.reference.Ref.TheVariants.{Out};
+ghost use Rattle.gg_cli.specs.Texts.{refusal_text, fault_line, twice_text};
 ghost use Rattle.gg_cli.specs.Faults.{fault_text};
 ghost use Rattle.gg_cli.specs.Writing.{Writes};
 ghost use Rattle.gg_cli.specs.Ending.{Speaks};
@@ -13,6 +14,7 @@ use crate::writing::{write, write_decimal, write_named};
 use need_eval::Refusal;
 use object_name::{Name, Sink, Trouble};
 use std::alloc::Global;
+use thunk_codec::Ref;
 
 /// Writes some bytes, a number, some bytes and a name.
 fn write_counted<S: Sink>(
@@ -44,6 +46,44 @@ fn write_failure<S: Sink>(
     write_decimal(alloc, sink, u64::from(status))
 }
 
+/// Writes that a thunk's job is over the limit.
+fn write_too_big<S: Sink>(
+    alloc: Global,
+    sink: &mut S,
+    name: &Name,
+    bytes: u64,
+) -> Result<(), Trouble>
+    ensures { Writes (codes "job too big: " ++ (spelling name.now ++ (32 ∷ decimal bytes))) (S.written sink.old) (S.written sink.new) (S.faults sink.old) (S.faults sink.new) result }
+{
+    write_named(sink, b"job too big: ", name)?;
+    write(sink, b" ")?;
+    write_decimal(alloc, sink, bytes)
+}
+
+/// Writes that an item stands twice.
+fn write_twice<S: Sink>(alloc: Global, sink: &mut S, item: &Ref) -> Result<(), Trouble>
+    ensures { Writes (twice_text item.now) (S.written sink.old) (S.written sink.new) (S.faults sink.old) (S.faults sink.new) result }
+{
+    match item {
+        Ref::Value(name) => write_named(sink, b"twice: ", name),
+        Ref::Out(name, index) => write_twice_output(alloc, sink, name, *index),
+    }
+}
+
+/// Writes that an output of a thunk stands twice among the items.
+fn write_twice_output<S: Sink>(
+    alloc: Global,
+    sink: &mut S,
+    name: &Name,
+    index: u32,
+) -> Result<(), Trouble>
+    ensures { Writes (twice_text (Out name.now index)) (S.written sink.old) (S.written sink.new) (S.faults sink.old) (S.faults sink.new) result }
+{
+    write_named(sink, b"twice: ", name)?;
+    write(sink, b"#")?;
+    write_decimal(alloc, sink, u64::from(index))
+}
+
 /// Writes why what was wanted is refused.
 fn write_refusal<S: Sink>(alloc: Global, sink: &mut S, refusal: &Refusal) -> Result<(), Trouble>
     ensures { Writes (refusal_text refusal.now) (S.written sink.old) (S.written sink.new) (S.faults sink.old) (S.faults sink.new) result }
@@ -67,6 +107,7 @@ fn write_refusal<S: Sink>(alloc: Global, sink: &mut S, refusal: &Refusal) -> Res
             b" steps spent at ",
             name,
         ),
+        Refusal::TooBig { name, bytes } => write_too_big(alloc, sink, name, *bytes),
         Refusal::FunctionFailed { name, status } => write_failure(alloc, sink, name, *status),
     }
 }
@@ -77,8 +118,8 @@ fn write_text<S: Sink>(alloc: Global, sink: &mut S, fault: &TopFault) -> Result<
 {
     match fault {
         TopFault::Usage => write(sink, b"usage"),
+        TopFault::Twice(item) => write_twice(alloc, sink, item),
         TopFault::Refused(refusal) => write_refusal(alloc, sink, refusal),
-        TopFault::NotBuilt(name) => write_named(sink, b"not built yet: ", name),
         TopFault::Clash(name) => write_named(sink, b"two objects named ", name),
         TopFault::StoreFailed => write(sink, b"store fault"),
         TopFault::OutputFailed => write(sink, b"output fault"),

@@ -20,6 +20,10 @@ pub enum Status {
     NoOutput,
     /// The budget of steps is spent.
     Spent,
+    /// A job's encoding is over the limit.
+    TooBig,
+    /// An item is refused.
+    FileRefused,
     /// Two objects have one name.
     Clash,
     /// The keeper failed.
@@ -28,8 +32,6 @@ pub enum Status {
     ByteFault,
     /// Memory was refused.
     Memory,
-    /// The reduction needs what isn't built yet.
-    NotBuilt,
 }
 
 impl Status {
@@ -47,11 +49,12 @@ impl Status {
             Status::BadThunk => 4,
             Status::NoOutput => 5,
             Status::Spent => 6,
+            Status::TooBig => 7,
+            Status::FileRefused => 8,
             Status::Clash => 10,
             Status::StoreFault => 12,
             Status::ByteFault => 14,
             Status::Memory => 17,
-            Status::NotBuilt => 18,
         }
     }
 }

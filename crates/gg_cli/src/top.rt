@@ -30,7 +30,7 @@ fn do_command<K: Keeper, O: Sink>(
     ensures no_usage { result ≢ Err TopFault.Usage }
 {
     match command {
-        Command::Force { wanted } => force(alloc, keeper, out, wanted),
+        Command::Force { budget, items } => force(alloc, keeper, out, *budget, items.as_slice()),
     }
 }
 
@@ -45,7 +45,7 @@ fn obey<K: Keeper, O: Sink>(
         (record { before = K.store keeper.old; after = K.store keeper.new; out_before = O.written out.old; out_after = O.written out.new }) result }
     ensures cause { EndCause (K.faults keeper.old) (K.faults keeper.new) (O.faults out.old) (O.faults out.new) result }
     ensures usage { result ≡ Err TopFault.Usage → command_of (map string_bytes words.now) ≡ None }
-    ensures no_command { command_of (map string_bytes words.now) ≡ None → result ≡ Err TopFault.Usage }
+    ensures no_command { command_of (map string_bytes words.now) ≡ None → (result ≡ Err TopFault.Usage) ⊎ (result ≡ Err TopFault.Memory) }
 {
     match read_words(alloc, words) {
         Ok(command) => do_command(alloc, &command, keeper, out),
