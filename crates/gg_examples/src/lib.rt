@@ -2,6 +2,14 @@
 #![tactic(auto)]
 
 #[cfg(test)]
-mod first_thunk;
+mod cat;
 #[cfg(test)]
-mod world;
+mod command_lines;
+#[cfg(test)]
+mod faults;
+#[cfg(test)]
+mod objects;
+#[cfg(test)]
+mod running;
+#[cfg(test)]
+mod within;

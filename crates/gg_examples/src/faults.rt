@@ -1,0 +1,44 @@
+//! A store and an output that fail.
+
+use crate::objects::{Item, Objects};
+use crate::running::{assert_done, assert_refused, force, run_with};
+use gg_cli::Status;
+use object_name::name_of;
+use std::test::Fail;
+
+/// How many calls the store takes in a run over `cat_of_three` that nothing is known of: the thunk, its function and its three
+/// inputs are read, the note is looked for, function and inputs are read for the job, the output is looked up and written, and the
+/// note.
+const CALLS: u64 = 13;
+
+#[test]
+fn each_call_of_the_store_fails_in_turn(rt: HostRuntime) -> Result<(), Fail> {
+    let alloc = rt.alloc();
+    let abc = name_of(b"abc")?;
+    for failing in 1..CALLS + 1 {
+        let mut objects = Objects::new(alloc);
+        let item = Item::Out(objects.cat_of_three()?, 0);
+        let mut keeper = objects.keeper(&[failing])?;
+        let ran = force(alloc, &mut keeper, &[item])?;
+        assert_refused(&rt, &ran, Status::StoreFault, b"gg: store fault\n");
+        assert_eq!(rt; keeper.calls(), failing);
+        // The same command over what is left gives the undisturbed answer.
+        let ran = force(alloc, &mut keeper, &[item])?;
+        assert_done(&rt, &ran, &[(abc, item)], alloc)?;
+        assert_eq!(rt; keeper.puts().len(), 2);
+    }
+    Ok(())
+}
+
+#[test]
+fn an_output_that_fails(rt: HostRuntime) -> Result<(), Fail> {
+    let alloc = rt.alloc();
+    let mut objects = Objects::new(alloc);
+    let thunk = objects.cat_of_three()?;
+    let mut keeper = objects.keeper(&[])?;
+    let item = Item::Out(thunk, 0);
+    let ran = run_with(alloc, &mut keeper, &["force", "--local"], &[item], &[1])?;
+    assert_refused(&rt, &ran, Status::ByteFault, b"gg: output fault\n");
+    assert_eq!(rt; keeper.puts(), [name_of(b"abc")?, thunk].as_slice());
+    Ok(())
+}

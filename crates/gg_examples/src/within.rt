@@ -1,0 +1,130 @@
+//! Thunks within thunks: outputs as inputs and as functions, thunks that functions answer with, and the budget.
+
+use crate::objects::{CAT, Item, Objects, thunk_text};
+use crate::running::{Said, assert_done, assert_says, force, force_within};
+use gg_cli::Status;
+use object_name::{Name, name_of};
+use std::test::Fail;
+
+#[test]
+fn shared_thunk_is_reduced_once(rt: HostRuntime) -> Result<(), Fail> {
+    let alloc = rt.alloc();
+    let mut objects = Objects::new(alloc);
+    let inner = objects.cat_of_three()?;
+    let output = Item::Out(inner, 0);
+    let outer = objects.cat(&[output, output])?;
+    let item = Item::Out(outer, 0);
+    let mut keeper = objects.keeper(&[])?;
+    let ran = force_within(alloc, &mut keeper, "2", &[item])?;
+    let twice = name_of(b"abcabc")?;
+    assert_done(&rt, &ran, &[(twice, item)], alloc)?;
+    // Two objects and two notes, the second under the name of the outer thunk with values in place of its inputs.
+    let puts = keeper.puts();
+    assert_eq!(rt; puts.len(), 4);
+    assert_eq!(rt; puts.first(), Some(&name_of(b"abc")?));
+    assert!(rt; !puts.contains(&outer));
+    Ok(())
+}
+
+#[test]
+fn budget_is_shared(rt: HostRuntime) -> Result<(), Fail> {
+    let alloc = rt.alloc();
+    let mut objects = Objects::new(alloc);
+    let inner = objects.cat_of_three()?;
+    let outer = objects.cat(&[Item::Out(inner, 0)])?;
+    let mut keeper = objects.keeper(&[])?;
+    let said = Said {
+        status: Status::Spent,
+        before: "budget of 1 steps spent at ",
+        name: inner,
+        behind: "",
+    };
+    let ran = force_within(alloc, &mut keeper, "1", &[Item::Out(outer, 0)])?;
+    assert_says(&rt, &ran, &said, alloc)?;
+    assert!(rt; keeper.puts().is_empty());
+    // Of two items the second finds nothing left.
+    let ran = force_within(
+        alloc,
+        &mut keeper,
+        "1",
+        &[Item::Value(name_of(b"c")?), Item::Out(inner, 0), Item::Out(outer, 0)],
+    )?;
+    assert_eq!(rt; ran.status, Status::Spent);
+    assert_eq!(rt; keeper.puts().len(), 2);
+    Ok(())
+}
+
+/// Adds a `cat` whose output is the text of the `cat` of `ab`, no bytes and `c`, and gives both names.
+fn add_yielding(objects: &mut Objects) -> Result<(Name, Name), Fail> {
+    let function = objects.value(CAT)?;
+    let a = objects.value(b"ab")?;
+    let b = objects.value(b"")?;
+    let c = objects.value(b"c")?;
+    let text = thunk_text(objects.alloc, &function, &[a, b, c])?;
+    let inner = name_of(text.as_slice())?;
+    let (front, back) = text.as_slice().split_at(6);
+    let front = objects.value(front)?;
+    let back = objects.value(back)?;
+    let outer = objects.cat(&[front, back])?;
+    Ok((outer, inner))
+}
+
+#[test]
+fn thunk_as_answer(rt: HostRuntime) -> Result<(), Fail> {
+    let alloc = rt.alloc();
+    let mut objects = Objects::new(alloc);
+    let (outer, inner) = add_yielding(&mut objects)?;
+    let item = Item::Out(outer, 0);
+    let mut keeper = objects.keeper(&[])?;
+    // One step for the entry, one for the passage, and one for the entry into the thunk that was the answer.
+    let ran = force_within(alloc, &mut keeper, "2", &[item])?;
+    let said = Said {
+        status: Status::Spent,
+        before: "budget of 2 steps spent at ",
+        name: inner,
+        behind: "",
+    };
+    assert_says(&rt, &ran, &said, alloc)?;
+    assert_eq!(rt; keeper.puts(), [inner, outer].as_slice());
+    let abc = name_of(b"abc")?;
+    let ran = force_within(alloc, &mut keeper, "3", &[item])?;
+    assert_done(&rt, &ran, &[(abc, item)], alloc)?;
+    assert_eq!(rt; keeper.puts(), [inner, outer, abc, inner].as_slice());
+    Ok(())
+}
+
+#[test]
+fn function_of_another_thunk(rt: HostRuntime) -> Result<(), Fail> {
+    let alloc = rt.alloc();
+    let mut objects = Objects::new(alloc);
+    let front = objects.value(b"gg-tool ")?;
+    let back = objects.value(b"cat\n")?;
+    let function = objects.cat(&[front, back])?;
+    let input = objects.value(b"abc")?;
+    let thunk = objects.thunk(&Item::Out(function, 0), &[input])?;
+    let item = Item::Out(thunk, 0);
+    let mut keeper = objects.keeper(&[])?;
+    let ran = force(alloc, &mut keeper, &[item])?;
+    assert_done(&rt, &ran, &[(name_of(b"abc")?, item)], alloc)?;
+    // The card and the input are held, so two notes are all that is written.
+    assert_eq!(rt; keeper.puts().len(), 2);
+    Ok(())
+}
+
+#[test]
+fn function_before_inputs(rt: HostRuntime) -> Result<(), Fail> {
+    let alloc = rt.alloc();
+    let mut objects = Objects::new(alloc);
+    let function = name_of(b"function")?;
+    let input = name_of(b"input")?;
+    let thunk = objects.thunk(&Item::Value(function), &[Item::Value(input)])?;
+    let mut keeper = objects.keeper(&[])?;
+    let ran = force(alloc, &mut keeper, &[Item::Out(thunk, 0)])?;
+    let said = Said {
+        status: Status::Missing,
+        before: "missing object ",
+        name: function,
+        behind: "",
+    };
+    assert_says(&rt, &ran, &said, alloc)
+}
