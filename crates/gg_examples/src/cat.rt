@@ -32,7 +32,7 @@ fn the_note_of_three(rt: HostRuntime) -> Result<(), Fail> {
     let thunk = objects.cat_of_three()?;
     let mut keeper = objects.keeper(&[])?;
     let _ = force(alloc, &mut keeper, &[Item::Out(thunk, 0)])?;
-    let (_, notes) = keeper.into_content(alloc)?;
+    let (_, notes) = keeper.into_content();
     let text = note_text(alloc, &thunk, &[name_of(b"abc")?])?;
     assert_eq!(rt; text.len(), 120);
     assert_eq!(rt; notes.len(), 1);

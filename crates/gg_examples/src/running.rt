@@ -136,6 +136,7 @@ fn fault_line(alloc: Global, before: &str, name: &Name, behind: &str) -> Result<
 }
 
 /// What a refused command line says of a name.
+#[derive(Clone, Copy)]
 pub struct Said<'a> {
     pub status: Status,
     pub before: &'a str,
