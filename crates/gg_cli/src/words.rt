@@ -1,7 +1,6 @@
 //! Command lines, by their words.
 
-ghost use Rattle.std.specs.Prelude.{◌≡◌, ◌≤◌, ◌↔◌, All, Some, None, Err, IsTrue, length, map, ok_or, string_bytes, IfOk, IfSome, IsErrOf};
-ghost use Rattle.std.specs.Option.{option_map};
+ghost use Rattle.std.specs.Prelude.{◌≡◌, All, Some, None, map, string_bytes, IfOk, IsErrOf};
 ghost use Rattle.thunk_codec.specs.Reference.{IsRef};
 ghost use Rattle.gg_cli.specs.Words.{budget_of, refs_in, force_items, with_budget, local_of, command_of};
 ghost use Rattle.gg_cli.specs.Commands.{IsCommand};
