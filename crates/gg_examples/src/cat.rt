@@ -1,7 +1,7 @@
 //! Thunks of `cat` over values: what forcing them writes, prints and answers.
 
 use crate::objects::{CAT, Item, Objects, note_text};
-use crate::running::{Said, assert_done, assert_says, force, force_within};
+use crate::running::{Said, assert_done, assert_says, force, run};
 use gg_cli::Status;
 use object_name::{Name, name_of};
 use std::test::Fail;
@@ -14,7 +14,10 @@ fn cat_of_three(rt: HostRuntime) -> Result<(), Fail> {
     assert_eq!(rt; thunk.size(), 255);
     let item = Item::Out(thunk, 0);
     let abc = name_of(b"abc")?;
-    assert_eq!(rt; Some(abc), Name::read(b"VungWv48Bz-pBQUDeXa4iI7ADYaOWF3qctBD_YfIAFa000000003"));
+    assert_eq!(rt;
+        Some(abc),
+        Name::read(b"VungWv48Bz-pBQUDeXa4iI7ADYaOWF3qctBD_YfIAFa000000003")
+    );
     let mut keeper = objects.keeper(&[])?;
     for _ in 0..2 {
         let ran = force(alloc, &mut keeper, &[item])?;
@@ -87,7 +90,12 @@ fn no_such_output(rt: HostRuntime) -> Result<(), Fail> {
     let mut objects = Objects::new(alloc);
     let thunk = objects.cat_of_three()?;
     let mut keeper = objects.keeper(&[])?;
-    let ran = force_within(alloc, &mut keeper, "1", &[Item::Out(thunk, 1)])?;
+    let ran = run(
+        alloc,
+        &mut keeper,
+        &["force", "--local", "--budget", "1"],
+        &[Item::Out(thunk, 1)],
+    )?;
     let said = Said {
         status: Status::NoOutput,
         before: "no output 1 of ",
@@ -149,7 +157,8 @@ fn thunk_texts_refused(rt: HostRuntime) -> Result<(), Fail> {
     let mut objects = Objects::new(alloc);
     let _ = objects.value(CAT)?;
     // Inputs in falling order: the text of a thunk is asked for, and then the two letters are exchanged.
-    let text = b"gg-thunk 1\nf V47DEQpj8HBSa-_TImW-5JCeuQeRkm5NMpJWZG3hSuFU00000000\ni 1:b V47DEQpj8HBSa-_TImW-5JCeuQeRkm5NMpJWZG3hSuFU00000000\ni 1:a V47DEQpj8HBSa-_TImW-5JCeuQeRkm5NMpJWZG3hSuFU00000000\no 3:out\nend\n";
+    let text =
+        b"gg-thunk 1\nf V47DEQpj8HBSa-_TImW-5JCeuQeRkm5NMpJWZG3hSuFU00000000\ni 1:b V47DEQpj8HBSa-_TImW-5JCeuQeRkm5NMpJWZG3hSuFU00000000\ni 1:a V47DEQpj8HBSa-_TImW-5JCeuQeRkm5NMpJWZG3hSuFU00000000\no 3:out\nend\n";
     let thunk = objects.add(text)?;
     let mut keeper = objects.keeper(&[])?;
     let ran = force(alloc, &mut keeper, &[Item::Out(thunk, 0)])?;

@@ -6,6 +6,9 @@ use gg_cli::Status;
 use object_name::name_of;
 use std::test::Fail;
 
+/// The name of no bytes.
+const EMPTY: &str = "V47DEQpj8HBSa-_TImW-5JCeuQeRkm5NMpJWZG3hSuFU00000000";
+
 #[test]
 fn bare_value_not_held(rt: HostRuntime) -> Result<(), Fail> {
     let alloc = rt.alloc();
@@ -39,7 +42,11 @@ fn item_that_stands_twice(rt: HostRuntime) -> Result<(), Fail> {
     let mut objects = Objects::new(alloc);
     let thunk = objects.cat_of_three()?;
     let mut keeper = objects.keeper(&[])?;
-    let items = [Item::Out(thunk, 0), Item::Out(thunk, 1), Item::Out(thunk, 0)];
+    let items = [
+        Item::Out(thunk, 0),
+        Item::Out(thunk, 1),
+        Item::Out(thunk, 0),
+    ];
     let ran = force(alloc, &mut keeper, &items)?;
     let said = Said {
         status: Status::FileRefused,
@@ -56,22 +63,21 @@ fn item_that_stands_twice(rt: HostRuntime) -> Result<(), Fail> {
 fn other_words_are_a_usage_fault(rt: HostRuntime) -> Result<(), Fail> {
     let alloc = rt.alloc();
     let mut keeper = Objects::new(alloc).keeper(&[])?;
-    let item = "V47DEQpj8HBSa-_TImW-5JCeuQeRkm5NMpJWZG3hSuFU00000000";
     let lists: [&[&str]; 14] = [
         &[],
         &["force"],
         &["force", "--local"],
-        &["force", item],
+        &["force", EMPTY],
         &["force", "--local", "--budget"],
         &["force", "--local", "--budget", "1"],
-        &["force", "--local", "--budget", "05", item],
-        &["force", "--local", "--budget", "0", item],
-        &["force", "--local", "--budget", "1048577", item],
-        &["force", "--local", "--budget", "1", "--budget", "1", item],
-        &["force", "--local", item, "--budget", "1"],
-        &["force", "--local", "--retries", "2", item],
+        &["force", "--local", "--budget", "05", EMPTY],
+        &["force", "--local", "--budget", "0", EMPTY],
+        &["force", "--local", "--budget", "1048577", EMPTY],
+        &["force", "--local", "--budget", "1", "--budget", "1", EMPTY],
+        &["force", "--local", EMPTY, "--budget", "1"],
+        &["force", "--local", "--retries", "2", EMPTY],
         &["force", "--local", "path"],
-        &["demo", "0", item],
+        &["demo", "0", EMPTY],
     ];
     for words in lists {
         let ran = run(alloc, &mut keeper, words, &[])?;

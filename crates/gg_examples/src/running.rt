@@ -80,16 +80,6 @@ pub fn force(alloc: Global, keeper: &mut MemKeeper, items: &[Item]) -> Result<Ra
     run(alloc, keeper, &["force", "--local"], items)
 }
 
-/// Forces some items here within a budget.
-pub fn force_within(
-    alloc: Global,
-    keeper: &mut MemKeeper,
-    budget: &str,
-    items: &[Item],
-) -> Result<Ran, Fail> {
-    run(alloc, keeper, &["force", "--local", "--budget", budget], items)
-}
-
 /// Appends the line of a value.
 fn append_value(text: &mut Bytes, name: &Name, item: &Item) -> Result<(), Fail> {
     append_name(text, name)?;
@@ -109,7 +99,12 @@ fn value_lines(alloc: Global, values: &[(Name, Item)]) -> Result<Bytes, Fail> {
 }
 
 /// A command line is done, and printed these values and nothing else.
-pub fn assert_done(rt: &impl Abort, ran: &Ran, values: &[(Name, Item)], alloc: Global) -> Result<(), Fail> {
+pub fn assert_done(
+    rt: &impl Abort,
+    ran: &Ran,
+    values: &[(Name, Item)],
+    alloc: Global,
+) -> Result<(), Fail> {
     let lines = value_lines(alloc, values)?;
     assert_eq!(rt; ran.status, Status::Done);
     assert_eq!(rt; ran.out.as_slice(), lines.as_slice());

@@ -1,7 +1,7 @@
 //! Thunks within thunks: outputs as inputs and as functions, thunks that functions answer with, and the budget.
 
 use crate::objects::{CAT, Item, Objects, thunk_text};
-use crate::running::{Said, assert_done, assert_says, force, force_within};
+use crate::running::{Said, assert_done, assert_says, force, run};
 use gg_cli::Status;
 use object_name::{Name, name_of};
 use std::test::Fail;
@@ -15,7 +15,12 @@ fn shared_thunk_is_reduced_once(rt: HostRuntime) -> Result<(), Fail> {
     let outer = objects.cat(&[output, output])?;
     let item = Item::Out(outer, 0);
     let mut keeper = objects.keeper(&[])?;
-    let ran = force_within(alloc, &mut keeper, "2", &[item])?;
+    let ran = run(
+        alloc,
+        &mut keeper,
+        &["force", "--local", "--budget", "2"],
+        &[item],
+    )?;
     let twice = name_of(b"abcabc")?;
     assert_done(&rt, &ran, &[(twice, item)], alloc)?;
     // Two objects and two notes, the second under the name of the outer thunk with values in place of its inputs.
@@ -39,15 +44,24 @@ fn budget_is_shared(rt: HostRuntime) -> Result<(), Fail> {
         name: inner,
         behind: "",
     };
-    let ran = force_within(alloc, &mut keeper, "1", &[Item::Out(outer, 0)])?;
+    let ran = run(
+        alloc,
+        &mut keeper,
+        &["force", "--local", "--budget", "1"],
+        &[Item::Out(outer, 0)],
+    )?;
     assert_says(&rt, &ran, &said, alloc)?;
     assert!(rt; keeper.puts().is_empty());
     // Of two items the second finds nothing left.
-    let ran = force_within(
+    let ran = run(
         alloc,
         &mut keeper,
-        "1",
-        &[Item::Value(name_of(b"c")?), Item::Out(inner, 0), Item::Out(outer, 0)],
+        &["force", "--local", "--budget", "1"],
+        &[
+            Item::Value(name_of(b"c")?),
+            Item::Out(inner, 0),
+            Item::Out(outer, 0),
+        ],
     )?;
     assert_eq!(rt; ran.status, Status::Spent);
     assert_eq!(rt; keeper.puts().len(), 2);
@@ -77,7 +91,12 @@ fn thunk_as_answer(rt: HostRuntime) -> Result<(), Fail> {
     let item = Item::Out(outer, 0);
     let mut keeper = objects.keeper(&[])?;
     // One step for the entry, one for the passage, and one for the entry into the thunk that was the answer.
-    let ran = force_within(alloc, &mut keeper, "2", &[item])?;
+    let ran = run(
+        alloc,
+        &mut keeper,
+        &["force", "--local", "--budget", "2"],
+        &[item],
+    )?;
     let said = Said {
         status: Status::Spent,
         before: "budget of 2 steps spent at ",
@@ -87,7 +106,12 @@ fn thunk_as_answer(rt: HostRuntime) -> Result<(), Fail> {
     assert_says(&rt, &ran, &said, alloc)?;
     assert_eq!(rt; keeper.puts(), [inner, outer].as_slice());
     let abc = name_of(b"abc")?;
-    let ran = force_within(alloc, &mut keeper, "3", &[item])?;
+    let ran = run(
+        alloc,
+        &mut keeper,
+        &["force", "--local", "--budget", "3"],
+        &[item],
+    )?;
     assert_done(&rt, &ran, &[(abc, item)], alloc)?;
     assert_eq!(rt; keeper.puts(), [inner, outer, abc, inner].as_slice());
     Ok(())
