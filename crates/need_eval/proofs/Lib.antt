@@ -6,3 +6,4 @@ pub mod Turns
 pub mod Going
 pub mod ReadOnly
 pub mod Inputs
+pub mod Sound

@@ -4,5 +4,6 @@ pub mod PartWay
 pub mod Pieces
 pub mod Machine
 pub mod Walking
+pub mod Turning
 pub mod Walk
 pub mod Evaluating

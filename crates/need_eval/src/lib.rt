@@ -7,6 +7,7 @@ mod frame;
 mod jobs;
 mod reading;
 mod standing;
+mod turning;
 mod walker;
 
 pub use evaluating::{Values, evaluate};

@@ -59,8 +59,19 @@ impl Walker {
         ensures retries { IfOk result (λ w. w.retries ≡ retries) }
         ensures walking { IfOk result (λ w. w.standing ≡ Standing.Walking) }
     {
-        // A stub: want of memory.
-        Err(AllocError)
+        let level = Level {
+            done: Many::new(alloc),
+            rest: VecDeque::from_vec(refs.0),
+        };
+        Ok(Walker {
+            frames: VecDeque::new(alloc),
+            level,
+            reduced: BTreeMap::new(alloc),
+            steps: 0,
+            budget,
+            retries,
+            standing: Standing::Walking,
+        })
     }
 
     /// Goes on up to the end, or to a job whose outcome isn't there. Nothing is written. After a fault it is over.
