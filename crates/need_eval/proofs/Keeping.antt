@@ -137,7 +137,7 @@ module _ (R : State → State → Type 0) (kept : IsKept R) where
               (λ t u. keeps-go_on u (each deeper (refs_of t) u) (λ values. reduce answer name (resolved_by t values))
               (keeps-each deeper (refs_of t) deep u) (λ values. keeps-reduce name (resolved_by t values)))
 
-          keeps-output_of : (name : ObjectName) (index : ℕ) → Keeps R (output_of answer budget deeper name index)
+          pub keeps-output_of : (name : ObjectName) (index : ℕ) → Keeps R (output_of answer budget deeper name index)
           keeps-output_of name index s =
               keeps-go_on s (outputs_at answer budget deeper name index (s.reduced name) s) (λ outputs. need (slice_get outputs index) (Refused (NoOutput name index)))
               (keeps-outputs_at name index (s.reduced name) s) (λ outputs. keeps-need (slice_get outputs index) (Refused (NoOutput name index)))

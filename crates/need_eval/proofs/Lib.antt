@@ -3,6 +3,7 @@ pub mod Keeping
 pub mod Growth
 pub mod Fuel
 pub mod Turns
+pub mod Leaving
 pub mod Going
 pub mod ReadOnly
 pub mod Inputs
