@@ -18,7 +18,7 @@ use Rattle.blob_store.specs.Store.{Write, held, other_held, storing}
 use Rattle.reduction_cache.specs.Hit.{hit_of, note_write}
 use Rattle.need_eval.specs.declared.fault.Refusal.TheVariants.{Missing, BadThunk, NoOutput, Spent, TooBig}
 use Rattle.need_eval.specs.declared.frame.Frame.{Frame}
-use Rattle.need_eval.specs.Eval.{State, Stop, Refused, Ended, Got, Stopped, Eval, ◌>>=◌, go_on, give, check, need, each, step, make_write, mark}
+use Rattle.need_eval.specs.Eval.{State, Stop, Refused, Ended, Got, Stopped, Eval, ◌>>=◌, ◌>>◌, go_on, give, check, need, each, step, make_write, mark}
 use Rattle.need_eval.specs.Evaluation.{object, held_value, thunk_at, input_object, job_of, no_clash, store_one, outputs_by, finished, ask, outputs_of, reduce, count, entered, outputs_at, output_of, passed, value_by, beyond, value_within, value_of, values_of}
 use Rattle.need_eval.specs.Machine.{resume}
 use Rattle.need_eval.specs.PartWay.{state_after}
@@ -31,6 +31,13 @@ Keeps R m = (s : State) → R s (state_after (m s))
 pub record IsKept (R : State → State → Type 0) : Type 0 where
   pub same : (s : State) → R s s
   pub both : (s t u : State) → R s t → R t u → R s u
+
+-- what follows the outputs of the innermost thunk
+abbrev pub following : (ℕ → Job → Option Outcome) → ℕ → Frame → List Frame → List ObjectName → Eval (List ObjectName)
+following answer budget inner outer outputs = do
+  output ← need (slice_get outputs inner.index) (Refused (NoOutput inner.name inner.index))
+  value ← passed answer budget (value_of answer budget) output.kind output
+  resume answer budget outer (inner.outer.done ++ value ∷ []) inner.outer.rest.items
 
 module _ (R : State → State → Type 0) (kept : IsKept R) where
   -- what follows an end
@@ -171,9 +178,19 @@ module _ (R : State → State → Type 0) (kept : IsKept R) where
             keeps-go_on s (values_of answer budget rest s) (λ values. give (done ++ values)) (keeps-values_of rest s) (λ values u. kept.same u)
         keeps-resume (inner ∷ outer) done rest s =
             keeps-go_on s (values_of answer budget rest s) _ (keeps-values_of rest s)
-            (λ values t. keeps-go_on t (reduce answer inner.name (resolved_by inner.thunk (done ++ values)) t) _ (keeps-reduce inner.name (resolved_by inner.thunk (done ++ values)) t)
+            (λ values t. keeps-go_on t (reduce answer inner.name (resolved_by inner.thunk (done ++ values)) t) (following answer budget inner outer)
+            (keeps-reduce inner.name (resolved_by inner.thunk (done ++ values)) t)
             (λ outputs u. keeps-go_on u (need (slice_get outputs inner.index) (Refused (NoOutput inner.name inner.index)) u) _
             (keeps-need (slice_get outputs inner.index) (Refused (NoOutput inner.name inner.index)) u)
             (λ output v. keeps-go_on v (passed answer budget (value_of answer budget) output.kind output v) _
             (keeps-passed (value_of answer budget) keeps-value_of output.kind output v)
             (λ value. keeps-resume outer (inner.outer.done ++ value ∷ []) inner.outer.rest.items))))
+
+        -- what follows the outputs of the innermost thunk
+        pub keeps-following : (inner : Frame) (outer : List Frame) (outputs : List ObjectName) → Keeps R (following answer budget inner outer outputs)
+        keeps-following inner outer outputs u =
+            keeps-go_on u (need (slice_get outputs inner.index) (Refused (NoOutput inner.name inner.index)) u) _
+            (keeps-need (slice_get outputs inner.index) (Refused (NoOutput inner.name inner.index)) u)
+            (λ output v. keeps-go_on v (passed answer budget (value_of answer budget) output.kind output v) _
+            (keeps-passed (value_of answer budget) keeps-value_of output.kind output v)
+            (λ value. keeps-resume outer (inner.outer.done ++ value ∷ []) inner.outer.rest.items))

@@ -1,6 +1,10 @@
 -- Lemmas of need_eval.
 pub mod Keeping
 pub mod Growth
+pub mod Stopping
+pub mod Asking
+pub mod Outcomes
+pub mod Walks
 pub mod Fuel
 pub mod Turns
 pub mod Leaving

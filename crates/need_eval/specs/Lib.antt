@@ -7,3 +7,4 @@ pub mod Walking
 pub mod Turning
 pub mod Walk
 pub mod Evaluating
+pub mod Progress
