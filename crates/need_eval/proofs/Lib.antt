@@ -12,3 +12,4 @@ pub mod Going
 pub mod ReadOnly
 pub mod Inputs
 pub mod Sound
+pub mod Onward

@@ -121,4 +121,4 @@ value-kinds (name ∷ done) h =
     of-value kinds.Thunk e = absurd (false≢true e)
 
 pub sound-kinds : (frames : List Frame) (done : List ObjectName) (rest : List Ref) → IsTrue (is_sound frames done rest) → HaveValueKind done
-sound-kinds frames done rest h = value-kinds done (IsSound-parts frames done rest h).done
+sound-kinds frames done rest h = value-kinds done (IsSound-parts frames done rest h).values

@@ -1,7 +1,7 @@
 //! Where an evaluation stands.
 
 use object_name::{Many, Name};
-use std::alloc::AllocFailed;
+use std::alloc::{AllocError, AllocFailed, Global};
 use std::collections::VecDeque;
 use thunk_codec::{Ref, Thunk};
 
@@ -22,8 +22,27 @@ pub struct Frame {
 }
 
 impl Level {
-    ghost use Rattle.std.specs.Prelude.{◌≡◌, ◌<◌, ◌++◌, ◌∷◌, [], None, drop, length, IfSome, OnOk, OnErr};
+    ghost use Rattle.std.specs.Prelude.{◌≡◌, ◌<◌, ◌++◌, ◌∷◌, [], None, drop, length, IfOk, IfSome, OnOk, OnErr};
     ghost use Rattle.thunk_codec.specs.declared.reference.Ref.TheVariants.{Out};
+    ghost use Rattle.thunk_codec.specs.Thunk.{IsThunk};
+    ghost use Rattle.thunk_codec.specs.Resolved.{refs_of};
+
+    /// The values of a thunk's function and inputs are wanted.
+    pub fn of(alloc: Global, thunk: &Thunk) -> Result<Level, AllocError>
+        ensures done { IfOk result (λ level. level.done ≡ []) }
+        ensures rest { IfOk result (λ level. level.rest.items ≡ refs_of thunk.now) }
+        ensures rules { OnOk result (IsThunk thunk.now) }
+    {
+        let mut rest = VecDeque::new(alloc);
+        rest.push_back(*thunk.function())?;
+        'inputs: for (_, reference) in thunk.inputs() {
+            rest.push_back(*reference)?;
+        }
+        Ok(Level {
+            done: Many::new(alloc),
+            rest,
+        })
+    }
 
     /// The reference whose value is wanted next.
     pub fn next(&self) -> Option<Ref>

@@ -1,0 +1,11 @@
+use Rattle.std.proofs.Common.{refl, sym, arith, add-one}
+use Rattle.need_eval.proofs.Onward.{here, onward-pass, onward-spent}
+use Rattle.need_eval.proofs.walker.Walker.pass.Goals as goal
+
+pub returns-then-self-clause-turns : goal.returns-then-self-clause-turns
+returns-then-self-clause-turns c = ?
+
+pub returns-clause-turns : goal.returns-clause-turns
+returns-clause-turns c = λ store answer writes asked.
+    onward-pass c.args.self.now store answer writes asked c.args.name c.args.index c.requires.next c.args.output c.requires.known c.pass.new.self.done c.pass.new.self.rest.items _
+    c.requires.kind (omega arith) c.pass.ensures.done c.pass.ensures.rest (add-one c.args.self.now.steps)
