@@ -13,3 +13,4 @@ pub mod ReadOnly
 pub mod Inputs
 pub mod Sound
 pub mod Onward
+pub mod ComingOut

@@ -1,7 +1,7 @@
 -- What is left of an evaluation after a turn of a walker.
 use Rattle.std.proofs.Common.{◌≡◌, ◌≤◌, ◌<◌, ℕ, suc, List, [], ◌∷◌, ◌++◌, length, drop, Bool, true, false, Option, Some, None, refl, sym, ap, subst, ◌∙◌}
 use Rattle.std.specs.Prelude.{nat_lt, slice_get}
-use Rattle.std.proofs.lemmas.Bool.{lt-ltb}
+use Rattle.std.proofs.lemmas.Bool.{lt-ltb, le-ltb}
 use Rattle.std.specs.BTreeMap.{get}
 use Rattle.object_name.specs.declared.kind.Kind.TheVariants as kinds
 use Rattle.object_name.specs.Name.{ObjectName, name_cmp}
@@ -29,6 +29,10 @@ use Rattle.need_eval.proofs.Turns.{pick, turn-value, turn-value-stops, turn-know
 -- a step that the budget has
 counted : (budget : ℕ) (name : ObjectName) (s : State) → s.steps < budget → count budget name s ≡ Got tt (stepped s)
 counted budget name s has = ap (λ test. go_on (check test (Refused (Spent name budget)) s) (λ _. step)) (lt-ltb s.steps budget has)
+
+-- a step that it hasn't
+pub not-counted : (budget : ℕ) (name : ObjectName) (s : State) → budget ≤ s.steps → StopsWith (Refused (Spent name budget)) (count budget name s) s.store
+not-counted budget name s spent = record { last = s; stopped = ap (λ test. go_on (check test (Refused (Spent name budget)) s) (λ _. step)) (le-ltb s.steps budget spent); store = refl }
 
 module _ (w : Walker) (store : Store) (answer : ℕ → Job → Option Outcome) (writes : List Write) (asked : List Job) where
   abbrev pub here : State

@@ -1,5 +1,5 @@
 -- Keeping what a walker has gathered in order.
-use Rattle.std.proofs.Common.{◌≡◌, ◌+◌, ℕ, suc, List, [], ◌∷◌, ◌++◌, length, map, Bool, true, false, IsTrue, refl, sym, ap, subst, ◌∙◌, arith}
+use Rattle.std.proofs.Common.{◌≡◌, ◌+◌, ℕ, suc, List, [], ◌∷◌, ◌++◌, length, map, Bool, true, false, IsTrue, refl, sym, ap, subst, ◌∙◌, arith, rules}
 use Rattle.std.specs.Prelude.{◌&&◌, ◌==◌}
 use Rattle.std.specs.List.{list_all, AllByRecursion}
 use Rattle.std.proofs.lemmas.Bool.{and_parts, and_from, false≢true}
@@ -81,17 +81,20 @@ sound-alone frames done rest h =
     IsSound-whole [] done rest (record { values = s.values; kinds = s.kinds; around = refl; fit = refl })
 
 -- a thunk that is entered
-pub sound-enter : (frames : List Frame) (done : List ObjectName) (r : Ref) (rest : List Ref) (frame : Frame) → frame.outer.done ≡ done → frame.outer.rest.items ≡ rest → IsThunk frame.thunk → IsTrue (is_sound frames done (r ∷ rest)) → IsTrue (is_sound (frame ∷ frames) [] (refs_of frame.thunk))
-sound-enter frames done r rest frame dones rests rules h =
-    let s = IsSound-parts frames done (r ∷ rest) h in
-    let number : length done + length (r ∷ rest) ≡ length done + length rest + 1 = omega arith in
+pub sound-enter : (frames : List Frame) (done : List ObjectName) (rest : List Ref) (r : Ref) (next : List Ref) (frame : Frame) (new_frames : List Frame) (new_done : List ObjectName) (new_rest : List Ref) → rest ≡ r ∷ next → frame.outer.done ≡ done → frame.outer.rest.items ≡ next → new_frames ≡ frame ∷ frames → new_done ≡ [] → new_rest ≡ refs_of frame.thunk → IsThunk frame.thunk → IsTrue (is_sound frames done rest) → IsTrue (is_sound new_frames new_done new_rest)
+sound-enter frames done rest r next frame new_frames new_done new_rest is dones rests framed nothing wanted thunk_rules h =
+    let s = IsSound-parts frames done (r ∷ next) (subst (λ (rest : List Ref). IsTrue (is_sound frames done rest)) is h) in
+    let number : length done + length (r ∷ next) ≡ length done + length next + 1 = omega arith in
     let here : fit_thunks frames (length frame.outer.done + length frame.outer.rest.items + 1) ≡ true =
         (λ i. fit_thunks frames (length (dones i) + length (rests i) + 1)) ∙ subst (λ (n : ℕ). fit_thunks frames n ≡ true) number s.fit in
-    IsSound-whole (frame ∷ frames) [] (refs_of frame.thunk) (record {
+    let gathered : is_gathered frame.outer.done frame.outer.rest.items ≡ true =
+        (λ i. is_gathered (dones i) (rests i)) ∙ and_from _ _ s.values (and_parts (has_right_kind r) (list_all has_right_kind next) s.kinds).1 in
+    (λ i. is_sound (framed i) (nothing i) (wanted i))
+    ∙ IsSound-whole (frame ∷ frames) [] (refs_of frame.thunk) (record {
       values = refl;
-      kinds = right-refs (refs_of frame.thunk) (rules.function, rules.input_refs);
-      around = and_from _ _ ((λ i. is_gathered (dones i) (rests i)) ∙ and_from _ _ s.values (and_parts (has_right_kind r) (list_all has_right_kind rest) s.kinds).1) s.around;
-      fit = and_from _ _ (search Rattle.std.proofs.Common.rules) here;
+      kinds = right-refs (refs_of frame.thunk) (thunk_rules.function, thunk_rules.input_refs);
+      around = and_from _ _ gathered s.around;
+      fit = and_from _ _ (search rules) here;
     })
 
 -- a thunk that is left: the output that was wanted is next

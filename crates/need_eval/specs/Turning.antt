@@ -1,5 +1,5 @@
 -- What the turns of a walker do, by their answers.
-use Rattle.std.specs.Prelude.{◌≡◌, ℕ, List, [], ◌∷◌, length, nat_lt, Option, Some, None, Result, Ok, Err, slice_get, if◌then◌else◌}
+use Rattle.std.specs.Prelude.{◌≡◌, ℕ, List, [], ◌∷◌, true, Option, Some, None, Result, Ok, Err, slice_get, if◌then◌else◌}
 use Rattle.std.specs.Ordering.{eq_by_cmp}
 use Rattle.std.specs.BTreeMap.{get}
 use Rattle.object_name.specs.Name.{ObjectName, name_cmp}
@@ -9,12 +9,12 @@ use Rattle.thunk_codec.specs.declared.job.Outcome.{Outcome}
 use Rattle.thunk_codec.specs.Thunk.{Parts}
 use Rattle.thunk_codec.specs.Resolved.{resolved_by}
 use Rattle.blob_store.specs.Store.{Store, Write}
-use Rattle.need_eval.specs.declared.fault.Refusal.TheVariants.{NoOutput}
 use Rattle.need_eval.specs.declared.fault.EvalFault.{EvalFault}
 use Rattle.need_eval.specs.declared.frame.Frame.{Frame}
 use Rattle.need_eval.specs.declared.walker.Walker.{Walker}
 use Rattle.need_eval.specs.declared.walker.Walked.{Walked}
-use Rattle.need_eval.specs.Walking.{walking, left, GoesOn, Advances}
+use Rattle.need_eval.specs.declared.standing.Standing.{Standing}
+use Rattle.need_eval.specs.Walking.{walking, left, is_over, GoesOn, Advances, StandsAs}
 use Rattle.need_eval.specs.Pieces.{StopsReading}
 
 -- what is left of the evaluation stops so, with any answers
@@ -32,6 +32,12 @@ abbrev pub Turned : Walker → Walker → Store → Result (Option Walked) EvalF
 Turned before after store (Ok None) = GoesOn before after store
 Turned before after store (Ok (Some walked)) = Advances before after store (Ok walked)
 Turned before after store (Err fault) = StopsAt before store fault
+
+-- a walker is over up to where it leaves off
+abbrev pub TurnStands : Standing → Result (Option Walked) EvalFault → Type 0
+TurnStands standing (Ok None) = is_over standing ≡ true
+TurnStands standing (Ok (Some walked)) = StandsAs standing (Ok walked)
+TurnStands standing (Err fault) = is_over standing ≡ true
 
 -- this is an output of a thunk that was reduced
 pub record IsOutput (w : Walker) (name : ObjectName) (index : ℕ) (output : ObjectName) : Type 0 where

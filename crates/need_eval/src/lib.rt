@@ -5,6 +5,7 @@ mod evaluating;
 mod fault;
 mod frame;
 mod jobs;
+mod exits;
 mod reading;
 mod standing;
 mod turning;

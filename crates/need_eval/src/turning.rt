@@ -35,6 +35,7 @@ impl Walker {
         ensures later { K.faults keeper.old ≤ K.faults keeper.new }
         ensures cause { IfErr result (KeeperCause self.old.retries (K.faults keeper.old) (K.faults keeper.new)) }
         ensures setup { HasSetup self.old self.new }
+        ensures standing { self.new.standing ≡ self.old.standing }
         ensures work { OnOk result (work_of self.new < work_of self.old) }
     {
         object(alloc, keeper, &name, self.retries)?;
@@ -50,6 +51,7 @@ impl Walker {
         ensures turns { (store : Store) → Turns self.old self.new store result }
         ensures cause { (retries before after : ℕ) → IfErr result (KeeperCause retries before after) }
         ensures setup { HasSetup self.old self.new }
+        ensures standing { self.new.standing ≡ self.old.standing }
         ensures work { OnOk result (work_of self.new < work_of self.old) }
     {
         if self.steps >= self.budget {
@@ -70,13 +72,16 @@ impl Walker {
         ensures turns { (store : Store) → Turns self.old self.new store result }
         ensures cause { (retries before after : ℕ) → IfErr result (KeeperCause retries before after) }
         ensures setup { HasSetup self.old self.new }
+        ensures standing { self.new.standing ≡ self.old.standing }
         ensures work { OnOk result (work_of self.new < work_of self.old) }
     {
-        if output.kind() == Kind::Thunk {
-            return self.pass(name, index, output);
+        match output.kind() {
+            Kind::Value => {
+                self.level.gather(output)?;
+                Ok(())
+            }
+            Kind::Thunk => self.pass(name, index, output),
         }
-        self.level.gather(output)?;
-        Ok(())
     }
 
     /// Whether a thunk has the wanted output, and the budget a step.
@@ -112,6 +117,7 @@ impl Walker {
         ensures later { K.faults keeper.old ≤ K.faults keeper.new }
         ensures cause { IfErr result (KeeperCause self.old.retries (K.faults keeper.old) (K.faults keeper.new)) }
         ensures setup { HasSetup self.old self.new }
+        ensures standing { self.new.standing ≡ self.old.standing }
         ensures work { OnOk result (work_of self.new < work_of self.old) }
     {
         let thunk = thunk_at(alloc, keeper, &name, self.retries)?;
@@ -144,6 +150,7 @@ impl Walker {
         ensures later { K.faults keeper.old ≤ K.faults keeper.new }
         ensures cause { IfErr result (KeeperCause self.old.retries (K.faults keeper.old) (K.faults keeper.new)) }
         ensures setup { HasSetup self.old self.new }
+        ensures standing { self.new.standing ≡ self.old.standing }
         ensures work { OnOk result (work_of self.new < work_of self.old) }
     {
         match self.reduced.get(&name) {

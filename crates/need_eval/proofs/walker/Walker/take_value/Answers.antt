@@ -1,3 +1,4 @@
+use Rattle.std.proofs.Common.{refl}
 use Rattle.std.proofs.lemmas.Result.{err_from_is_err_and}
 use Rattle.need_eval.proofs.Onward.{here, onward-value, onward-value-stops}
 use Rattle.need_eval.proofs.walker.Walker.take_value.Goals as goal
