@@ -1,5 +1,5 @@
 -- What is left of an evaluation after a walker came out of a thunk, or waits at its job.
-use Rattle.std.proofs.Common.{◌≡◌, ◌≤◌, ◌<◌, ℕ, List, [], ◌∷◌, length, Option, Some, None, refl, sym, ap, subst, ◌∙◌}
+use Rattle.std.proofs.Common.{◌≡◌, ◌≤◌, ◌<◌, ℕ, List, [], ◌∷◌, length, drop, slice_index_or, arith, Option, Some, None, refl, sym, ap, subst, ◌∙◌}
 use Rattle.object_name.specs.Name.{ObjectName, name_of}
 use Rattle.thunk_codec.specs.declared.job.Job.{Job}
 use Rattle.thunk_codec.specs.declared.job.Outcome.{Outcome}
@@ -30,8 +30,13 @@ ends w store answer writes asked names t frames rest same states =
     ∙ turn-end answer w.budget w.level.done (walking w store writes asked)
     ∙ λ i. Got (sym same i) (sym states i)
 
+-- what stands first
+pub first-of : {A : Type 0} (xs : List A) (x : A) → 0 < length xs → x ≡ slice_index_or xs 0 x → xs ≡ x ∷ drop 1 xs
+first-of [] x within is = absurd (omega (arith, within))
+first-of (y ∷ ys) x within is = ap (λ x. x ∷ ys) (sym is)
+
 -- the first of some frames
-front : Frame → List Frame → Frame
+abbrev front : Frame → List Frame → Frame
 front other [] = other
 front other (inner ∷ outer) = inner
 
@@ -77,9 +82,9 @@ module _ (w : Walker) (store : Store) (answer : ℕ → Job → Option Outcome) 
   pub comes-out : (after : Walker) (outputs : List ObjectName) → resolved_size t ≤ max_job → hit_of store (name_of (text_of t)) (length t.outputs) ≡ Some outputs → after.budget ≡ w.budget → Leaves w after outputs → left answer w here ≡ left answer after (walking after store writes asked)
   comes-out after outputs small hit budget leaves =
       let inner = leaves.inner in
-      let as = innermost-as w name t inner leaves.outer leaves.frames is in
+      let same = innermost-as w name t inner leaves.outer leaves.frames is in
       let reduced : reduce answer inner.name (resolved_by inner.thunk w.level.done) here ≡ Got outputs (marked inner.name outputs here) =
-          sym (λ i. reduce answer (as.0 i) (as.1 i) here) ∙ reduce-hit answer name t outputs here small hit ∙ ap (λ name. Got outputs (marked name outputs here)) as.0 in
+          sym (λ i. reduce answer (same.0 i) (same.1 i) here) ∙ reduce-hit answer name t outputs here small hit ∙ ap (λ name. Got outputs (marked name outputs here)) same.0 in
       at-inner inner leaves.outer leaves.frames
       ∙ turn-leave answer w.budget inner leaves.outer w.level.done outputs here (marked inner.name outputs here) reduced (marked-reduced inner.name outputs here)
       ∙ λ i. resume answer (sym budget i) (sym leaves.left_frames i) (sym leaves.done i) (sym leaves.rest i) (left-state w after outputs leaves store writes asked i)

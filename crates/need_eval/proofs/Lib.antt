@@ -14,3 +14,4 @@ pub mod Inputs
 pub mod Sound
 pub mod Onward
 pub mod ComingOut
+pub mod Advancing

@@ -165,4 +165,33 @@ impl Walker {
         let (name, thunk) = innermost;
         self.come_out(alloc, keeper, name, &thunk)
     }
+    /// One turn.
+    pub(crate) fn turn<K: Keeper>(
+        &mut self,
+        alloc: Global,
+        keeper: &mut K,
+    ) -> Result<Option<Walked>, EvalFault>
+        requires { is_over self.old.standing ≡ true }
+        ensures turns { K.tells → Turned self.old self.new (K.store keeper.old) result }
+        ensures steps { IfOk result (λ turn. IfSome turn (λ walked. HasSteps self.new walked)) }
+        ensures same { K.tells → K.store keeper.new ≡ K.store keeper.old }
+        ensures later { K.faults keeper.old ≤ K.faults keeper.new }
+        ensures cause { IfErr result (KeeperCause self.old.retries (K.faults keeper.old) (K.faults keeper.new)) }
+        ensures setup { HasSetup self.old self.new }
+        ensures stands { TurnStands self.new.standing result }
+        ensures work { OnOk result (work_of self.new ≤ work_of self.old) }
+        ensures less { IfOk result (λ turn. turn ≡ None → work_of self.new < work_of self.old) }
+    {
+        match self.level.next() {
+            Some(Ref::Value(name)) => {
+                self.take_value(alloc, keeper, name)?;
+                Ok(None)
+            }
+            Some(Ref::Out(name, index)) => {
+                self.take_output(alloc, keeper, name, index)?;
+                Ok(None)
+            }
+            None => self.turn_out(alloc, keeper),
+        }
+    }
 }

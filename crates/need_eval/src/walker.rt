@@ -92,9 +92,12 @@ impl Walker {
         ensures setup { (self.new.budget ≡ self.old.budget) × (self.new.retries ≡ self.old.retries) }
         ensures work { OnOk result (work_of self.new ≤ work_of self.old) }
     {
-        // A stub: want of memory.
         self.standing = Standing::Ended;
-        Err(EvalFault::Memory)
+        'turns: loop {
+            if let Some(walked) = self.turn(alloc, keeper)? {
+                return Ok(walked);
+            }
+        }
     }
 
     /// The job whose outcome is waited for, and the text of its thunk.
