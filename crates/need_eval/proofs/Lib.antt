@@ -15,3 +15,5 @@ pub mod Sound
 pub mod Onward
 pub mod ComingOut
 pub mod Advancing
+pub mod StoreOne
+pub mod Outputs

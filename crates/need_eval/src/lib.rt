@@ -10,6 +10,7 @@ mod reading;
 mod standing;
 mod turning;
 mod walker;
+mod writing;
 
 pub use evaluating::{Values, evaluate};
 pub use fault::{EvalFault, Refusal};
