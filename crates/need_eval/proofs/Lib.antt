@@ -17,3 +17,4 @@ pub mod ComingOut
 pub mod Advancing
 pub mod StoreOne
 pub mod Outputs
+pub mod Finishing

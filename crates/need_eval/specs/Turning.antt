@@ -68,3 +68,11 @@ pub record Leaves (before after : Walker) (outputs : List ObjectName) : Type 0 w
   pub rest : after.level.rest.items ≡ Out inner.name inner.index ∷ inner.outer.rest.items
   pub reduced : (other : ObjectName) → get name_cmp after.reduced other ≡ (if eq_by_cmp name_cmp inner.name other then Some outputs else get name_cmp before.reduced other)
   pub steps : after.steps ≡ before.steps
+
+-- a thunk was entered, all values that were wanted for the innermost are there, and this is its name
+pub record IsReady (w : Walker) (name : ObjectName) : Type 0 where
+  pub inner : Frame
+  pub outer : List Frame
+  pub frames : w.frames.items ≡ inner ∷ outer
+  pub named : name ≡ inner.name
+  pub gathered : w.level.rest.items ≡ []

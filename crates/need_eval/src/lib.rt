@@ -8,6 +8,7 @@ mod jobs;
 mod exits;
 mod reading;
 mod standing;
+mod supplying;
 mod turning;
 mod walker;
 mod writing;

@@ -11,6 +11,7 @@ use blob_store::Keeper;
 use object_name::{Many, Name};
 use std::alloc::{AllocError, Global};
 use std::collections::{BTreeMap, VecDeque};
+use std::mem::replace;
 use thunk_codec::{Outcome, Ref};
 
 /// An evaluation that stands somewhere inside. It owns neither the store nor what runs jobs: whoever has them calls `advance`
@@ -130,9 +131,13 @@ impl Walker {
         ensures setup { (self.new.budget ≡ self.old.budget) × (self.new.retries ≡ self.old.retries) }
         ensures work { OnOk result (work_of self.new < work_of self.old) }
     {
-        // A stub: want of memory.
-        self.standing = Standing::Ended;
-        Err(EvalFault::Memory)
+        let standing = replace(&mut self.standing, Standing::Ended);
+        let Standing::Blocked(prepared) = standing else {
+            return Err(EvalFault::Memory);
+        };
+        self.finish(alloc, keeper, &prepared, &outcome)?;
+        self.standing = Standing::Walking;
+        Ok(())
     }
 
     /// Whether it has come to its end, or to a fault.
