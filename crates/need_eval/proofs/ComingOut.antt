@@ -36,7 +36,7 @@ first-of [] x within is = absurd (omega (arith, within))
 first-of (y ∷ ys) x within is = ap (λ x. x ∷ ys) (sym is)
 
 -- the first of some frames
-abbrev front : Frame → List Frame → Frame
+abbrev pub front : Frame → List Frame → Frame
 front other [] = other
 front other (inner ∷ outer) = inner
 
@@ -84,7 +84,7 @@ module _ (w : Walker) (store : Store) (answer : ℕ → Job → Option Outcome) 
       let inner = leaves.inner in
       let same = innermost-as w name t inner leaves.outer leaves.frames is in
       let reduced : reduce answer inner.name (resolved_by inner.thunk w.level.done) here ≡ Got outputs (marked inner.name outputs here) =
-          sym (λ i. reduce answer (same.0 i) (same.1 i) here) ∙ reduce-hit answer name t outputs here small hit ∙ ap (λ name. Got outputs (marked name outputs here)) same.0 in
+      sym (λ i. reduce answer (same.0 i) (same.1 i) here) ∙ reduce-hit answer name t outputs here small hit ∙ ap (λ name. Got outputs (marked name outputs here)) same.0 in
       at-inner inner leaves.outer leaves.frames
       ∙ turn-leave answer w.budget inner leaves.outer w.level.done outputs here (marked inner.name outputs here) reduced (marked-reduced inner.name outputs here)
       ∙ λ i. resume answer (sym budget i) (sym leaves.left_frames i) (sym leaves.done i) (sym leaves.rest i) (left-state w after outputs leaves store writes asked i)

@@ -1,6 +1,6 @@
 -- What is left of an evaluation after the outcome of a job.
 use Rattle.std.proofs.Common.{◌≡◌, ◌≤◌, ℕ, List, [], ◌∷◌, ◌++◌, length, drop, Option, Some, None, Result, Ok, Err, refl, sym, ap, subst, ◌∙◌, append-nil}
-use Rattle.std.specs.Prelude.{if◌then◌else◌}
+use Rattle.std.specs.Prelude.{if◌then◌else◌, IfSome}
 use Rattle.std.specs.Ordering.{eq_by_cmp}
 use Rattle.std.specs.BTreeMap.{get}
 use Rattle.object_name.specs.Name.{ObjectName, name_cmp}
@@ -13,13 +13,15 @@ use Rattle.need_eval.specs.declared.fault.EvalFault.{EvalFault}
 use Rattle.need_eval.specs.declared.fault.EvalFault.TheVariants as faults
 use Rattle.need_eval.specs.declared.frame.Frame.{Frame}
 use Rattle.need_eval.specs.declared.standing.Prepared.{Prepared}
+use Rattle.need_eval.specs.declared.standing.Standing.{Standing}
+use Rattle.need_eval.specs.declared.standing.Standing.TheVariants.{Blocked}
 use Rattle.need_eval.specs.declared.walker.Walker.{Walker}
 use Rattle.need_eval.specs.Eval.{State, Ended, Got, Eval, go_on, ◌>>=◌, give, mark}
 use Rattle.need_eval.specs.Evaluation.{finished, reduce}
 use Rattle.need_eval.specs.Machine.{resume}
 use Rattle.need_eval.specs.PartWay.{state_after, IsPartWay, Stops}
 use Rattle.need_eval.specs.Putting.{Puts, after_writes}
-use Rattle.need_eval.specs.Walking.{walking, left, innermost, StandsAt, Supplied}
+use Rattle.need_eval.specs.Walking.{walking, left, innermost, blocked_at, StandsAt, Supplied}
 use Rattle.need_eval.specs.Turning.{IsReady, Leaves}
 use Rattle.need_eval.proofs.Keeping.{Keeps}
 use Rattle.need_eval.proofs.Growth.{Grows, Grows-stay, resume-grows}
@@ -59,6 +61,10 @@ puts-front m x old now puts s same = record {
   kept = puts.put ∙ ap (λ store. written store puts.made) (sym same);
 }
 
+-- what holds of the job that is waited for
+pub for-blocked : (standing : Standing) (p : Prepared) (P : Prepared → Type 0) → standing ≡ Blocked p → P p → IfSome (blocked_at standing) P
+for-blocked standing p P is h = subst (λ (standing : Standing). IfSome (blocked_at standing) P) (sym is) h
+
 -- nothing is written
 pub supplies-nothing : (w : Walker) (store : Store) (answer : ℕ → Job → Option Outcome) (writes : List Write) (asked : List Job) → IsPartWay (walking w store writes asked) (left answer w (walking w store writes asked)) store
 supplies-nothing w store answer writes asked =
@@ -91,7 +97,7 @@ module _ (w : Walker) (store : Store) (p : Prepared) (outcome : Outcome) (stands
     supplies-stops now fault stops =
         let u = asked_for p.job here in
         let part : Stops u (go_on (finished stands.inner.name whole outcome u) then_marked) now fault =
-            Stops-on u (finished stands.inner.name whole outcome u) then_marked now fault (λ outputs s. Grows-stay s _ refl refl) (stops u refl) in
+        Stops-on u (finished stands.inner.name whole outcome u) then_marked now fault (λ outputs s. Grows-stay s _ refl refl) (stops u refl) in
         let reduced : Stops u (reduce answer stands.inner.name whole here) now fault = subst (λ (e : Ended (List ObjectName)). Stops u e now fault) (sym runs) part in
         subst (λ (e : Ended (List ObjectName)). Stops here e now fault) (sym at-inner)
         (turn-leave-faults answer w.budget stands.inner stands.outer w.level.done here now fault
@@ -103,6 +109,7 @@ module _ (w : Walker) (store : Store) (p : Prepared) (outcome : Outcome) (stands
 
     -- all is written, and the thunk is left
     goes : (after : Walker) (outputs : List ObjectName) (now : Store) (puts : Puts (finished stands.inner.name whole outcome) outputs store now) → after.budget ≡ w.budget → Leaves w after outputs → left answer w here ≡ left answer after (walking after now (writes ++ puts.made) (asked ++ p.job ∷ []))
+    unfolding leaves-as
     goes after outputs now puts budget leaves =
         let there = leaves-as w after outputs leaves stands.inner stands.outer stands.frames in
         let u = after_writes (asked_for p.job here) puts.made in

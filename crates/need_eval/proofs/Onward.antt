@@ -91,7 +91,7 @@ module _ (w : Walker) (store : Store) (answer : ℕ → Job → Option Outcome) 
       onward-enter t frame frames done rest steps read entering names indices thunks dones rests framed nothing wanted stepping =
           at-next (Out name index) is
           ∙ turn-enter answer w.budget w.frames.items w.level.done name index (drop 1 w.level.rest.items) here t (stepped here) frame fresh
-            (ap (λ e. go_on e (entry w.budget name index)) read ∙ entering) names indices thunks dones rests
+          (ap (λ e. go_on e (entry w.budget name index)) read ∙ entering) names indices thunks dones rests
           ∙ λ i. resume answer w.budget (sym framed i) (sym nothing i) (sym wanted i) (record here { steps = sym stepping i })
 
       pub onward-thunk-stops : (fault : EvalFault) → StopsReading (thunk_at name here) store fault → StopsReading (left answer w here) store fault

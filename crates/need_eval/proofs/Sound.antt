@@ -86,9 +86,9 @@ sound-enter frames done rest r next frame new_frames new_done new_rest is dones 
     let s = IsSound-parts frames done (r ∷ next) (subst (λ (rest : List Ref). IsTrue (is_sound frames done rest)) is h) in
     let number : length done + length (r ∷ next) ≡ length done + length next + 1 = omega arith in
     let here : fit_thunks frames (length frame.outer.done + length frame.outer.rest.items + 1) ≡ true =
-        (λ i. fit_thunks frames (length (dones i) + length (rests i) + 1)) ∙ subst (λ (n : ℕ). fit_thunks frames n ≡ true) number s.fit in
+    (λ i. fit_thunks frames (length (dones i) + length (rests i) + 1)) ∙ subst (λ (n : ℕ). fit_thunks frames n ≡ true) number s.fit in
     let gathered : is_gathered frame.outer.done frame.outer.rest.items ≡ true =
-        (λ i. is_gathered (dones i) (rests i)) ∙ and_from _ _ s.values (and_parts (has_right_kind r) (list_all has_right_kind next) s.kinds).1 in
+    (λ i. is_gathered (dones i) (rests i)) ∙ and_from _ _ s.values (and_parts (has_right_kind r) (list_all has_right_kind next) s.kinds).1 in
     (λ i. is_sound (framed i) (nothing i) (wanted i))
     ∙ IsSound-whole (frame ∷ frames) [] (refs_of frame.thunk) (record {
       values = refl;

@@ -33,7 +33,7 @@ begins refs budget first w fresh = record {
   number = refl;
   same = λ answer answers.
       let begun : start first ≡ walking w first [] [] =
-        λ i. record { store = first; reduced = λ name. sym (fresh.reduced name) i; steps = sym fresh.steps i; writes = []; asked = [] } in
+      λ i. record { store = first; reduced = λ name. sym (fresh.reduced name) i; steps = sym fresh.steps i; writes = []; asked = [] } in
       resume-all answer w.budget refs (start first)
       ∙ ap (λ s. resume answer w.budget [] [] refs s) begun
       ∙ ap (λ rest. resume answer w.budget [] [] rest (walking w first [] [])) (sym fresh.rest)

@@ -2,10 +2,10 @@
 #![tactic(auto)]
 
 mod evaluating;
+mod exits;
 mod fault;
 mod frame;
 mod jobs;
-mod exits;
 mod reading;
 mod standing;
 mod supplying;

@@ -52,7 +52,7 @@ impl Walker {
     fn ready(&self) -> Option<Name>
         ensures { IfSome result (λ name. IsReady self.now name) }
     {
-        if !self.level.rest.is_empty() {
+        if !self.level.is_gathered() {
             return None;
         }
         match self.frames.front() {
@@ -86,7 +86,15 @@ impl Walker {
             return Err(EvalFault::Memory);
         };
         let number = prepared.job.outputs.len();
-        let outputs = keep_outcome(alloc, keeper, &name, &resolved, number, outcome, self.retries)?;
+        let outputs = keep_outcome(
+            alloc,
+            keeper,
+            &name,
+            &resolved,
+            number,
+            outcome,
+            self.retries,
+        )?;
         self.leave(alloc, outputs)?;
         Ok(())
     }

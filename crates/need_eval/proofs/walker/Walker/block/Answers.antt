@@ -13,7 +13,8 @@ returns-in_err-job-clause-turns g c = λ told.
     c.requires.small (c.requires.miss told) (c.in_err-job.ensures.reads told (walking w store writes asked) refl))
 
 pub returns-clause-turns : goal.returns-clause-turns
-returns-clause-turns g c = λ told.
-    ((λ answer writes asked. refl),
-    stands-at c.args.self.now _ (g.K.Keeper.store c.args.keeper.now) c.requires.innermost.0 c.args.thunk.now _ c.requires.gathered c.requires.innermost.1 refl refl refl
-    c.requires.small (c.requires.miss told) c.requires.text (c.in_ok-job.ensures.reads told))
+returns-clause-turns g c = λ told. (
+  (λ answer writes asked. refl),
+  stands-at c.args.self.now _ (g.K.Keeper.store c.args.keeper.now) c.requires.innermost.0 c.args.thunk.now _ c.requires.gathered c.requires.innermost.1 refl refl refl
+      c.requires.small (c.requires.miss told) c.requires.text (c.in_ok-job.ensures.reads told),
+)

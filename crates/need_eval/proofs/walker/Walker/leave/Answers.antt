@@ -10,7 +10,7 @@ invariant_of-self-2-clause-sound c =
     let inner = c.unwrap-inner.result in
     let outer = c.pop_front.new.self.items in
     let frames : w.frames.items ≡ inner ∷ outer =
-        sym (ap (λ frames. frames.items) c.replace-frames.ensures.value) ∙ c.pop_front.ensures.items ∙ ap (λ found. option_to_list found ++ outer) c.unwrap-inner.ensures in
+    sym (ap (λ frames. frames.items) c.replace-frames.ensures.value) ∙ c.pop_front.ensures.items ∙ ap (λ found. option_to_list found ++ outer) c.unwrap-inner.ensures in
     (λ i. is_sound outer inner.outer.done (c.in_ok-push_front.ensures.items i))
     ∙ sound-leave inner outer w.level.done w.level.rest.items inner.name inner.index (subst (λ frames. IsTrue (is_sound frames w.level.done w.level.rest.items)) frames w.sound)
 
