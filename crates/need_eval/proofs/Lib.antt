@@ -17,3 +17,10 @@ pub mod Outcomes
 pub mod Walks
 pub mod Progress
 pub mod Rounds
+pub mod Sound
+pub mod Onward
+pub mod ComingOut
+pub mod Advancing
+pub mod StoreOne
+pub mod Outputs
+pub mod Finishing
