@@ -110,7 +110,7 @@ module _ (name resolved : ObjectName) (t : Parts) (outcome : Outcome) (named : r
   noted_by resolved outputs = make_write (note_write resolved outputs) >>= λ _. give outputs
 
   noting-grows : (outputs : List ObjectName) → Keeps Grows (noted_by (name_of (text_of t)) outputs)
-  noting-grows outputs s = Grows-write (note_write (name_of (text_of t)) outputs) s
+  noting-grows outputs s = Grows-write (note_write (name_of (text_of t)) outputs) s tt
 
   -- the outputs can't be stored
   pub finished-stops : (fault : EvalFault) → ((s : State) → s.store ≡ old → Stops s (outputs_by name outcome s) between fault) → (s : State) → s.store ≡ old → Stops s (finished name t outcome s) between fault
