@@ -1,5 +1,5 @@
 -- Folders stand as they are spelled, and a path is its folder and its last component.
-use Rattle.std.proofs.Common.{◌≡◌, ℕ, suc, ◌+◌, ◌-◌, ◌<◌, ◌≤◌, Bool, true, false, not, leb, ◌&&◌, List, [], ◌∷◌, ◌++◌, length, reverse, take, drop, get_or, length-append, Option, Some, None, refl, sym, ap, subst, ◌∙◌, arith, append_assoc, inl, inr}
+use Rattle.std.proofs.Common.{◌≡◌, ℕ, suc, ◌+◌, ◌-◌, ◌<◌, ◌≤◌, true, false, not, leb, List, [], ◌∷◌, ◌++◌, length, reverse, take, drop, get_or, length-append, Option, Some, None, refl, sym, ap, subst, ◌∙◌, arith, append_assoc, inl, inr}
 use Rattle.std.specs.Prelude.{codes, bytes_eq, unwrap_or}
 use Rattle.std.specs.List.{list_all, join_with_byte, before_last, after_last, last_or, suffix_len}
 use Rattle.std.specs.Option.{option_map}
@@ -8,9 +8,9 @@ use Rattle.std.proofs.lemmas.List.Sums.{suffix_len_is}
 use Rattle.std.proofs.lemmas.Grind.{reverse_onto}
 use Rattle.std.proofs.lemmas.Bool.{and_parts, not_from_false, true≢false, ne_eqb, le-leb, leb-true, leb-false, cases_Bool}
 use Rattle.std.proofs.lemmas.Option.{same_Some}
-use Rattle.thunk_codec.specs.Maybe.{◌>>=◌, ◌>>◌}
+use Rattle.thunk_codec.specs.Maybe.{◌>>◌}
 use Rattle.thunk_codec.specs.Components.{is_plain, is_component, with_component}
-use Rattle.thunk_codec.specs.Path.{is_slash, is_printable, pieces_of, joined, after_pieces, components_of, path_of, is_path, is_same_path, max_path}
+use Rattle.thunk_codec.specs.Path.{is_slash, pieces_of, joined, after_pieces, components_of, path_of, is_path, max_path}
 use Rattle.thunk_codec.specs.Folder.{folder_text, folder_of, is_folder, parent_of, last_of, joined_from}
 use Rattle.thunk_codec.proofs.Steps.{bind_some, test_some}
 use Rattle.thunk_codec.proofs.Paths.{components_good, component_plain, components_plain, pieces_of-join, first_byte, joined_again, bytes_eq-not, bytes_eq-self, same_path, path_of-is_path, joined-cons, joined_before, plain_at, reversed_components}
@@ -163,7 +163,7 @@ reversed_some last before e = let x : last ∷ before ≡ [] = sym (reverse-reve
 pieces_back : (path : List ℕ) (j : IsJoined path) → pieces_of path ≡ reverse (j.last ∷ j.before)
 pieces_back path j = ap pieces_of j.path_is ∙ cut_again (reverse (j.last ∷ j.before)) (components_plain (reverse (j.last ∷ j.before)) (reversed_components (j.last ∷ j.before) j.good)) (reversed_some j.last j.before)
 
-parent_is : (path : List ℕ) (j : IsJoined path) → parent_of path ≡ folder_text (joined j.before)
+pub parent_is : (path : List ℕ) (j : IsJoined path) → parent_of path ≡ folder_text (joined j.before)
 unfolding parent_of
 parent_is path j =
     ap (λ (v : List (List ℕ)). folder_text (joined (drop 1 (reverse v)))) (pieces_back path j)
@@ -173,13 +173,13 @@ last_or-append : (o : Option (List ℕ)) (pieces : List (List ℕ)) (last : List
 last_or-append o [] last = refl
 last_or-append o (piece ∷ pieces) last = last_or-append (Some piece) pieces last
 
-last_is : (path : List ℕ) (j : IsJoined path) → last_of path ≡ j.last
+pub last_is : (path : List ℕ) (j : IsJoined path) → last_of path ≡ j.last
 unfolding last_of
 last_is path j =
     ap (λ (v : List (List ℕ)). unwrap_or (last_or None v) []) (pieces_back path j ∙ reverse_onto j.before j.last [])
     ∙ ap (λ (v : Option (List ℕ)). unwrap_or v []) (last_or-append None (reverse j.before) j.last)
 
-with_last : (path : List ℕ) (j : IsJoined path) → path ≡ with_component (joined j.before) j.last
+pub with_last : (path : List ℕ) (j : IsJoined path) → path ≡ with_component (joined j.before) j.last
 with_last path j = j.path_is ∙ joined-cons j.last j.before (and_parts (is_component j.last) (list_all is_component j.before) j.good).1
 
 last_plain : (path : List ℕ) (j : IsJoined path) → is_plain j.last ≡ true
@@ -211,7 +211,7 @@ root_front : (text : List ℕ) → is_slash (get_or text 0 0) ≡ false → comp
 unfolding components_of after_pieces
 root_front text h = rw h refl
 
-root_path : (text : List ℕ) → is_slash (get_or text 0 0) ≡ false → path_of (46 ∷ 47 ∷ text) ≡ path_of text
+pub root_path : (text : List ℕ) → is_slash (get_or text 0 0) ≡ false → path_of (46 ∷ 47 ∷ text) ≡ path_of text
 unfolding path_of
 root_path text h = rw (root_front text h) refl
 

@@ -1,5 +1,5 @@
 -- Placeholders are read as they are written.
-use Rattle.std.proofs.Common.{◌≡◌, ℕ, ◌-◌, ◌+◌, Bool, true, List, [], ◌∷◌, ◌++◌, length, take, drop, length-append, append_assoc, Option, Some, None, refl, sym, ap, subst, ◌∙◌, arith}
+use Rattle.std.proofs.Common.{◌≡◌, ℕ, ◌-◌, true, List, [], ◌∷◌, ◌++◌, length, take, length-append, Option, Some, None, refl, sym, ap, subst, ◌∙◌, arith}
 use Rattle.std.specs.Prelude.{IfSome, codes, nat_eq}
 use Rattle.std.specs.List.{starts_with, ends_with}
 use Rattle.std.proofs.lemmas.Bool.Decides.{Decides-eqb}
@@ -9,12 +9,12 @@ use Rattle.std.proofs.lemmas.Slice.Eq.{starts_is, ends_is}
 use Rattle.object_name.specs.Name.{ObjectName}
 use Rattle.thunk_codec.specs.declared.reference.Ref.{Ref}
 use Rattle.thunk_codec.specs.declared.reference.Ref.TheVariants.{Value, Out}
-use Rattle.thunk_codec.specs.Maybe.{◌>>=◌, ◌>>◌}
+use Rattle.thunk_codec.specs.Maybe.{◌>>=◌}
 use Rattle.thunk_codec.specs.Reference.{IsRef, ref_text, ref_of}
 use Rattle.thunk_codec.specs.Reading.{behind}
-use Rattle.thunk_codec.specs.Placeholder.{placeholder_text, IsPlaceholder, before_feed, output_of, placeholder_of}
+use Rattle.thunk_codec.specs.Placeholder.{IsPlaceholder, before_feed, output_of, placeholder_of}
 use Rattle.thunk_codec.proofs.Steps.{bind_some, test_some}
-use Rattle.thunk_codec.proofs.References.{ref_spelled, ref_again, same_ref}
+use Rattle.thunk_codec.proofs.References.{ref_spelled, ref_again}
 use Rattle.thunk_codec.proofs.Fields.{behind_takes}
 
 -- the first line

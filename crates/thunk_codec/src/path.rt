@@ -115,6 +115,7 @@ impl Path {
     }
 
     /// The folder of all but the last component.
+    #[tactic(auto, using(crate::proofs::Folders::parent_by_slash, crate::proofs::Folders::parent_is_folder))]
     pub fn folder(&self, alloc: Global) -> Result<Folder, AllocError>
         ensures { IfOk result (λ folder. folder ≡ parent_of self.now) }
     {
@@ -124,6 +125,7 @@ impl Path {
     }
 
     /// The last component.
+    #[tactic(auto, using(crate::proofs::Folders::last_by_slash))]
     pub fn last(&self) -> &[u8]
         ensures { result.now ≡ last_of self.now }
     {

@@ -1,4 +1,3 @@
-use Rattle.std.proofs.Common.{ℕ, ◌≤◌}
 use Rattle.thunk_codec.proofs.Folders.{NoSlashFrom}
 use Rattle.thunk_codec.proofs.normal.last_piece.Given as goal
 
