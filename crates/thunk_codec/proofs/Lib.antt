@@ -12,3 +12,5 @@ pub mod Decodes
 pub mod Encodes
 pub mod Resolves
 pub mod Makes
+pub mod Folders
+pub mod Placeholders

@@ -75,10 +75,10 @@ components_good text components e =
 
 -- ---- components, joined and cut again
 
-component_plain : (piece : List ℕ) → is_component piece ≡ true → is_plain piece ≡ true
+pub component_plain : (piece : List ℕ) → is_component piece ≡ true → is_plain piece ≡ true
 component_plain piece h = (and_parts _ (is_plain piece) (and_parts _ (not (bytes_eq piece (codes "..")) && is_plain piece) (and_parts _ (not (bytes_eq piece (codes ".")) && (not (bytes_eq piece (codes "..")) && is_plain piece)) h).1).1).1
 
-components_plain : (pieces : List (List ℕ)) → list_all is_component pieces ≡ true → list_all is_plain pieces ≡ true
+pub components_plain : (pieces : List (List ℕ)) → list_all is_component pieces ≡ true → list_all is_plain pieces ≡ true
 components_plain [] h = refl
 components_plain (piece ∷ pieces) h =
     let parts = and_parts (is_component piece) (list_all is_component pieces) h in
@@ -134,7 +134,7 @@ join_printable (first ∷ second ∷ others) h =
     list_all-append is_printable first (47 ∷ join_with_byte 47 (second ∷ others)) ∙ and_from _ _ (plain_printable first parts.0) (join_printable (second ∷ others) parts.1)
 
 -- components joined don't begin with a slash
-first_byte : (first : List ℕ) (others : List (List ℕ)) → is_component first ≡ true → is_slash (get_or (join_with_byte 47 (first ∷ others)) 0 0) ≡ false
+pub first_byte : (first : List ℕ) (others : List (List ℕ)) → is_component first ≡ true → is_slash (get_or (join_with_byte 47 (first ∷ others)) 0 0) ≡ false
 first_byte [] others h = absurd cc
 first_byte (byte ∷ first) [] h = (no_slash (byte ∷ first) (component_plain (byte ∷ first) h)).0
 first_byte (byte ∷ first) (second ∷ others) h = (no_slash (byte ∷ first) (component_plain (byte ∷ first) h)).0
@@ -148,17 +148,17 @@ join_again first others h =
     let plain = components_plain (first ∷ others) h in
     rw (first_byte first others parts.0, join_printable (first ∷ others) plain, pieces_of-join first others plain) (after_pieces-components [] (first ∷ others) h)
 
-joined_again : (components pieces : List (List ℕ)) → reverse components ≡ pieces → list_all is_component components ≡ true → (join_with_byte 47 pieces ≡ [] → ⊥)
+pub joined_again : (components pieces : List (List ℕ)) → reverse components ≡ pieces → list_all is_component components ≡ true → (join_with_byte 47 pieces ≡ [] → ⊥)
     → components_of (join_with_byte 47 pieces) ≡ Some components
 joined_again components [] e h some = absurd (some refl)
 joined_again components (first ∷ others) e h some =
     let good : list_all is_component (first ∷ others) ≡ true = subst (λ (v : List (List ℕ)). list_all is_component v ≡ true) e (list_all-reverse_aux is_component components [] h refl) in
     join_again first others good ∙ ap (λ (v : List (List ℕ)). Some (reverse v)) (sym e) ∙ ap (λ (v : List (List ℕ)). Some v) (reverse-reverse components)
 
-bytes_eq-not : (xs ys : List ℕ) → not (bytes_eq xs ys) ≡ true → xs ≡ ys → ⊥
+pub bytes_eq-not : (xs ys : List ℕ) → not (bytes_eq xs ys) ≡ true → xs ≡ ys → ⊥
 bytes_eq-not xs ys h = not_from_Decides (bytes_eq xs ys) (bytes_eq-Decides xs ys) (not-true _ h)
 
-bytes_eq-self : (xs : List ℕ) → bytes_eq xs xs ≡ true
+pub bytes_eq-self : (xs : List ℕ) → bytes_eq xs xs ≡ true
 bytes_eq-self xs = (bytes_eq-Decides xs xs).1 refl
 
 -- a path is read as it stands
@@ -176,7 +176,7 @@ pub path_is_path : (text path : List ℕ) → path_of text ≡ Some path → is_
 unfolding is_path
 path_is_path text path e = rw (path_again text path e) (bytes_eq-self path)
 
-same_path : (path : List ℕ) (found : Option (List ℕ)) → is_same_path path found ≡ true → found ≡ Some path
+pub same_path : (path : List ℕ) (found : Option (List ℕ)) → is_same_path path found ≡ true → found ≡ Some path
 same_path path None h = absurd cc
 same_path path (Some other) h = ap (λ (v : List ℕ). Some v) ((bytes_eq-Decides other path).0 h)
 
@@ -198,7 +198,7 @@ pieces_of-at text i lt slash before =
 pub pieces_of-none : (text : List ℕ) → ((k : ℕ) → k < length text → get_or text k 0 ≡ 47 → ⊥) → pieces_of text ≡ text ∷ []
 pieces_of-none text none = slice_split_none is_slash text (All-from_get_or (λ byte. is_slash byte ≡ false) text 0 (λ k h. ne_eqb _ _ (none k h)))
 
-plain_at : (piece : List ℕ) (k : ℕ) → is_plain piece ≡ true → k < length piece → is_slash (get_or piece k 0) ≡ false
+pub plain_at : (piece : List ℕ) (k : ℕ) → is_plain piece ≡ true → k < length piece → is_slash (get_or piece k 0) ≡ false
 plain_at piece k h lt = no_slash_all piece h k 0 lt
 
 -- what stands before the last slash of a path with one more component
@@ -244,7 +244,7 @@ join_push (first ∷ second ∷ others) piece h =
     ∙ sym (append_assoc first (47 ∷ join_with_byte 47 (second ∷ others)) (47 ∷ piece))
     ∙ sym (with_component_some (first ++ 47 ∷ join_with_byte 47 (second ∷ others)) piece (join_some first (second ∷ others) parts.0))
 
-reversed_components : (components : List (List ℕ)) → list_all is_component components ≡ true → list_all is_component (reverse components) ≡ true
+pub reversed_components : (components : List (List ℕ)) → list_all is_component components ≡ true → list_all is_component (reverse components) ≡ true
 reversed_components components h = list_all-reverse_aux is_component components [] h refl
 
 pub joined-cons : (piece : List ℕ) (before : List (List ℕ)) → list_all is_component before ≡ true → joined (piece ∷ before) ≡ with_component (joined before) piece

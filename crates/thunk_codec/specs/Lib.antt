@@ -9,3 +9,5 @@ pub mod Outcome
 pub mod Gives
 pub mod Raw
 pub mod Resolved
+pub mod Folder
+pub mod Placeholder

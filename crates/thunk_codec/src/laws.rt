@@ -7,6 +7,8 @@ ghost use Rattle.thunk_codec.specs.declared.job.Job.{Job};
 ghost use Rattle.thunk_codec.specs.declared.reference.Ref.{Ref};
 ghost use Rattle.thunk_codec.specs.declared.reference.Ref.TheVariants.{Value};
 ghost use Rattle.thunk_codec.specs.Path.{path_of, is_path};
+ghost use Rattle.thunk_codec.specs.Folder.{folder_of, is_folder, parent_of, last_of, joined_from};
+ghost use Rattle.thunk_codec.specs.Placeholder.{IsPlaceholder, placeholder_of};
 ghost use Rattle.thunk_codec.specs.Reference.{IsRef, ref_text, ref_of};
 ghost use Rattle.thunk_codec.specs.Thunk.{Parts, IsThunk, Text};
 ghost use Rattle.thunk_codec.specs.Reading.{thunk_of};
@@ -17,6 +19,28 @@ ghost use Rattle.thunk_codec.specs.Resolved.{refs_of, resolved_by, AreNames, Hav
 pub fn paths_stand()
     ensures again { (path : List ℕ) → IsTrue (is_path path) → path_of path ≡ Some path }
     ensures normal { (text : List ℕ) (path : List ℕ) → path_of text ≡ Some path → IsTrue (is_path path) }
+{}
+
+/// The folder of a folder's text is itself, and what a text gives is a folder.
+pub fn folders_stand()
+    ensures again { (folder : List ℕ) → IsTrue (is_folder folder) → folder_of folder ≡ Some folder }
+    ensures normal { (text : List ℕ) (folder : List ℕ) → folder_of text ≡ Some folder → IsTrue (is_folder folder) }
+{}
+
+/// A path is its last component, seen from its folder.
+pub fn parts_join()
+    ensures { (path : List ℕ) → IsTrue (is_path path) → joined_from (parent_of path) (last_of path) ≡ Some path }
+{}
+
+/// Reading a placeholder as a total function reads exactly the texts of placeholders.
+pub fn placeholders_read_back()
+    ensures { (bytes : List ℕ) (name : ObjectName) (index : ℕ) → (placeholder_of bytes ≡ Some (name, index)) ↔ IsPlaceholder bytes name index }
+{}
+
+/// A text is the placeholder of one output, and an output has one placeholder.
+pub fn one_placeholder_text()
+    ensures output { (bytes : List ℕ) (n : ObjectName) (m : ObjectName) (i : ℕ) (j : ℕ) → IsPlaceholder bytes n i → IsPlaceholder bytes m j → (n ≡ m) × (i ≡ j) }
+    ensures text { (a : List ℕ) (b : List ℕ) (n : ObjectName) (i : ℕ) → IsPlaceholder a n i → IsPlaceholder b n i → a ≡ b }
 {}
 
 /// Two references with one text are one reference.

@@ -3,6 +3,7 @@
 
 mod decoding;
 mod encoding;
+mod folder;
 mod function;
 mod in_place;
 mod job;
@@ -13,6 +14,7 @@ mod making;
 mod normal;
 mod parts;
 mod path;
+mod placeholder;
 mod reading;
 mod reference;
 mod resolved;
@@ -22,14 +24,18 @@ mod thunk;
 
 pub use decoding::{DecodeFault, decode};
 pub use encoding::encode;
+pub use folder::Folder;
 pub use function::{Function, Runner};
 pub use job::{Job, Outcome};
 pub use job_length::job_len;
 pub use making::MakeFault;
 pub use path::Path;
+pub use placeholder::{read_placeholder, write_placeholder};
 pub use reference::Ref;
 pub use resolving::resolve;
 pub use thunk::Thunk;
 
+#[cfg(test)]
+mod folder_tests;
 #[cfg(test)]
 mod tests;

@@ -1,13 +1,16 @@
 //! The normal form of a path's text.
 
 ghost use Rattle.std.specs.Prelude.{◌≡◌, ◌∷◌, ◌||◌, ◌<◌, List, ℕ, [], true, false, length, codes, bytes_eq, IfOk, OnOk, MatchOption, slice_index, IsTrue};
-ghost use Rattle.std.specs.List.{list_all, before_last};
+ghost use Rattle.std.specs.List.{list_all, before_last, after_last};
 ghost use Rattle.std.specs.Option.{option_map};
 ghost use Rattle.thunk_codec.specs.Path.{is_slash, is_printable, pieces_of, after_piece, after_pieces, joined, components_of};
 ghost use Rattle.thunk_codec.specs.Components.{is_plain, is_component, with_component};
 
 use object_name::Bytes;
 use std::alloc::{AllocError, Global};
+
+/// The greatest length of a path, in bytes.
+pub const MAX_PATH: usize = 1024;
 
 /// The bytes before the first `/`, and those behind it, where there is one.
 fn first_piece(text: &[u8]) -> (&[u8], Option<&[u8]>)
@@ -23,7 +26,7 @@ fn first_piece(text: &[u8]) -> (&[u8], Option<&[u8]>)
 }
 
 /// Takes the last component of a path away.
-fn drop_last(path: &mut Bytes)
+pub fn drop_last(path: &mut Bytes)
     ensures { path.new ≡ before_last is_slash path.old }
 {
     'bytes: while let Some(byte) = path.0.pop() {
@@ -31,6 +34,20 @@ fn drop_last(path: &mut Bytes)
             break;
         }
     }
+}
+
+/// The bytes behind the last `/`, or all where there is none.
+pub fn last_piece(text: &[u8]) -> &[u8]
+    ensures { result.now ≡ after_last is_slash text.now }
+{
+    let mut start = text.len();
+    'bytes: while start > 0 {
+        if text[start - 1] == b'/' {
+            return &text[start..];
+        }
+        start -= 1;
+    }
+    text
 }
 
 /// Appends a component to a path.
@@ -104,7 +121,7 @@ fn is_printable_text(text: &[u8]) -> bool
 }
 
 /// Whether a text begins with `/`.
-fn begins_with_slash(text: &[u8]) -> bool
+pub fn begins_with_slash(text: &[u8]) -> bool
     ensures { result ≡ is_slash (slice_index text.now 0) }
 {
     !text.is_empty() && text[0] == b'/'

@@ -8,16 +8,15 @@ ghost use Rattle.std.specs.Cmp.Rules.{comparing, hashing};
 ghost use Rattle.std.specs.Hash as fed;
 ghost use Rattle.std.specs.Ordering.{nat_cmp, as_partial_cmp};
 ghost use Rattle.thunk_codec.specs.Path.{path_of, is_path};
+ghost use Rattle.thunk_codec.specs.Folder.{parent_of, last_of};
 
-use crate::normal::components;
+use crate::folder::{Folder, folder_with};
+use crate::normal::{MAX_PATH, components, drop_last, last_piece};
 use object_name::{Bytes, TryCopy};
 use std::alloc::{AllocError, Global};
 use std::cmp::Ordering;
 use std::hash::{Hash, Hasher};
 use std::marker::Model;
-
-/// The greatest length of a path, in bytes.
-const MAX_PATH: usize = 1024;
 
 /// A normal path: 1 to 1,024 bytes from 32 to 126, without empty components, `.` and `..`. Contracts see its bytes.
 #[derive(Debug, Drop)]
@@ -113,5 +112,23 @@ impl Path {
         ensures normal { IsTrue (is_path self.now) }
     {
         self.text.as_slice()
+    }
+
+    /// The folder of all but the last component.
+    #[tactic(auto, using(crate::proofs::Folders::parent_by_slash, crate::proofs::Folders::parent_is_folder))]
+    pub fn folder(&self, alloc: Global) -> Result<Folder, AllocError>
+        ensures { IfOk result (λ folder. folder ≡ parent_of self.now) }
+    {
+        let mut text = Bytes::from_slice(alloc, self.text())?;
+        drop_last(&mut text);
+        folder_with(alloc, text)
+    }
+
+    /// The last component.
+    #[tactic(auto, using(crate::proofs::Folders::last_by_slash))]
+    pub fn last(&self) -> &[u8]
+        ensures { result.now ≡ last_of self.now }
+    {
+        last_piece(self.text())
     }
 }

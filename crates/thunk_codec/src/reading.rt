@@ -1,6 +1,7 @@
 //! Reading what the lines of a thunk's text say, from the front.
 
 ghost use Rattle.std.specs.Prelude.{◌≡◌, Some, None};
+ghost use Rattle.std.specs.Option.{option_copied};
 ghost use Rattle.object_name.specs.Number.{number_of};
 ghost use Rattle.thunk_codec.specs.Gives.{Gives};
 ghost use Rattle.thunk_codec.specs.Reading.{behind, split_at_byte, counted_at, ref_at, bytes_at, env_at, input_at};
@@ -10,14 +11,21 @@ use crate::reference::Ref;
 use object_name::{Bytes, read_number};
 use std::alloc::Global;
 
+/// What stands behind a mark, where the mark stands in front.
+pub fn strip_mark<'a>(mark: &[u8], bytes: &'a [u8]) -> Option<&'a [u8]>
+    ensures { option_copied result ≡ behind mark.now bytes.now }
+{
+    if !bytes.starts_with(mark) {
+        return None;
+    }
+    Some(&bytes[mark.len()..])
+}
+
 /// What stands behind a mark.
 pub fn behind<'a>(mark: &[u8], bytes: &'a [u8]) -> Result<&'a [u8], DecodeFault>
     ensures { Gives (λ x. x.now) result (behind mark.now bytes.now) }
 {
-    if !bytes.starts_with(mark) {
-        return Err(DecodeFault::BadThunk);
-    }
-    Ok(&bytes[mark.len()..])
+    strip_mark(mark, bytes).ok_or(DecodeFault::BadThunk)
 }
 
 /// The bytes before the first stop byte, and those behind it.

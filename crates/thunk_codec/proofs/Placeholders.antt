@@ -1,0 +1,81 @@
+-- Placeholders are read as they are written.
+use Rattle.std.proofs.Common.{◌≡◌, ℕ, ◌-◌, true, List, [], ◌∷◌, ◌++◌, length, take, length-append, Option, Some, None, refl, sym, ap, subst, ◌∙◌, arith}
+use Rattle.std.specs.Prelude.{IfSome, codes, nat_eq}
+use Rattle.std.specs.List.{starts_with, ends_with}
+use Rattle.std.proofs.lemmas.Bool.Decides.{Decides-eqb}
+use Rattle.std.proofs.lemmas.List.{take_at, drop_at}
+use Rattle.std.proofs.lemmas.Option.{same_Some}
+use Rattle.std.proofs.lemmas.Slice.Eq.{starts_is, ends_is}
+use Rattle.object_name.specs.Name.{ObjectName}
+use Rattle.thunk_codec.specs.declared.reference.Ref.{Ref}
+use Rattle.thunk_codec.specs.declared.reference.Ref.TheVariants.{Value, Out}
+use Rattle.thunk_codec.specs.Maybe.{◌>>=◌}
+use Rattle.thunk_codec.specs.Reference.{IsRef, ref_text, ref_of}
+use Rattle.thunk_codec.specs.Reading.{behind}
+use Rattle.thunk_codec.specs.Placeholder.{IsPlaceholder, before_feed, output_of, placeholder_of}
+use Rattle.thunk_codec.proofs.Steps.{bind_some, test_some}
+use Rattle.thunk_codec.proofs.References.{ref_spelled, ref_again}
+use Rattle.thunk_codec.proofs.Fields.{behind_takes}
+
+-- the first line
+abbrev first_line : List ℕ
+first_line = codes "gg-placeholder 1" ++ 10 ∷ []
+
+mark_again : (mark rest : List ℕ) → behind mark (mark ++ rest) ≡ Some rest
+mark_again mark rest =
+    let starts : starts_with nat_eq (mark ++ rest) mark ≡ true = (starts_is Decides-eqb (mark ++ rest) mark _ refl).1 rest refl in
+    rw starts (ap (λ (v : List ℕ). Some v) (drop_at mark rest (length mark) refl))
+
+feed_takes : (bytes text : List ℕ) → before_feed bytes ≡ Some text → bytes ≡ text ++ 10 ∷ []
+feed_takes bytes text e =
+    let a = test_some (ends_with nat_eq bytes (10 ∷ [])) (Some (take (length bytes - 1) bytes)) text e in
+    (ends_is Decides-eqb bytes (10 ∷ []) _ refl).0 a.0 ∙ ap (λ (v : List ℕ). v ++ 10 ∷ []) (same_Some _ text a.1)
+
+feed_again : (text : List ℕ) → before_feed (text ++ 10 ∷ []) ≡ Some text
+feed_again text =
+    let len : length (text ++ 10 ∷ []) - 1 ≡ length text = omega (arith, length-append text (10 ∷ [])) in
+    let ends : ends_with nat_eq (text ++ 10 ∷ []) (10 ∷ []) ≡ true = (ends_is Decides-eqb (text ++ 10 ∷ []) (10 ∷ []) _ refl).1 text refl in
+    rw (ends, len, take_at text (10 ∷ []) (length text) refl) refl
+
+output_is : (r : Ref) (read : ObjectName × ℕ) → output_of r ≡ Some read → r ≡ Out read.0 read.1
+output_is (Value name) read e = absurd cc
+output_is (Out name index) read e = ap (λ (v : ObjectName × ℕ). Out v.0 v.1) (same_Some (name, index) read e)
+
+pub placeholder_taken : (bytes : List ℕ) (read : ObjectName × ℕ) → placeholder_of bytes ≡ Some read → IsPlaceholder bytes read.0 read.1
+unfolding placeholder_of
+placeholder_taken bytes read e =
+    let a = bind_some (behind first_line bytes) (λ line. before_feed line >>= λ text. ref_of text >>= λ ref. output_of ref) read e in
+    let b = bind_some (before_feed a.0) (λ text. ref_of text >>= λ ref. output_of ref) read a.2 in
+    let c = bind_some (ref_of b.0) (λ ref. output_of ref) read b.2 in
+    let r = output_is c.0 read c.2 in
+    let spelled = subst (λ (v : Ref). IsRef v × (b.0 ≡ ref_text v)) r (ref_spelled b.0 c.0 c.1) in
+    record {
+      output = spelled.0;
+      text = behind_takes first_line bytes a.0 a.1 ∙ ap (λ (v : List ℕ). first_line ++ v) (feed_takes a.0 b.0 b.1 ∙ ap (λ (v : List ℕ). v ++ 10 ∷ []) spelled.1);
+    }
+
+read_by : (mark bytes line text : List ℕ) (r : Ref) (read : ObjectName × ℕ) → behind mark bytes ≡ Some line → before_feed line ≡ Some text → ref_of text ≡ Some r → output_of r ≡ Some read
+    → (behind mark bytes >>= λ line. before_feed line >>= λ text. ref_of text >>= λ ref. output_of ref) ≡ Some read
+read_by mark bytes line text r read first feed ref output =
+    ap (λ (v : Option (List ℕ)). v >>= λ line. before_feed line >>= λ text. ref_of text >>= λ ref. output_of ref) first
+    ∙ ap (λ (v : Option (List ℕ)). v >>= λ text. ref_of text >>= λ ref. output_of ref) feed
+    ∙ ap (λ (v : Option Ref). v >>= λ ref. output_of ref) ref
+    ∙ output
+
+pub placeholder_again : (bytes : List ℕ) (name : ObjectName) (index : ℕ) → IsPlaceholder bytes name index → placeholder_of bytes ≡ Some (name, index)
+unfolding placeholder_of
+placeholder_again bytes name index h =
+    let text = ref_text (Out name index) in
+    read_by first_line bytes (text ++ 10 ∷ []) text (Out name index) (name, index) (ap (behind first_line) h.text ∙ mark_again first_line (text ++ 10 ∷ [])) (feed_again text) (ref_again (Out name index) h.output) refl
+
+pub placeholder_found : (bytes : List ℕ) (found : Option (ObjectName × ℕ)) → found ≡ placeholder_of bytes → IfSome found (λ read. IsPlaceholder bytes read.0 read.1)
+placeholder_found bytes None e = tt
+placeholder_found bytes (Some read) e = placeholder_taken bytes read (sym e)
+
+pub placeholder_only : (bytes : List ℕ) (found : Option (ObjectName × ℕ)) (name : ObjectName) (index : ℕ) → found ≡ placeholder_of bytes → IsPlaceholder bytes name index → found ≡ Some (name, index)
+placeholder_only bytes found name index e h = e ∙ placeholder_again bytes name index h
+
+pub one_placeholder : (bytes : List ℕ) (name other : ObjectName) (index place : ℕ) → IsPlaceholder bytes name index → IsPlaceholder bytes other place → (name ≡ other) × (index ≡ place)
+one_placeholder bytes name other index place h k =
+    let e : ◌≡◌ {A = ObjectName × ℕ} (name, index) (other, place) = same_Some _ _ (sym (placeholder_again bytes name index h) ∙ placeholder_again bytes other place k) in
+    (ap (λ (v : ObjectName × ℕ). v.0) e, ap (λ (v : ObjectName × ℕ). v.1) e)
