@@ -2,7 +2,6 @@
 use Rattle.std.proofs.Common.{◌≡◌, ℕ, List, [], ◌∷◌, ◌++◌, length, drop, Option, Some, refl, sym, ap, subst, ◌∙◌, append-nil}
 use Rattle.std.specs.Prelude.{if◌then◌else◌, IfSome}
 use Rattle.std.specs.Ordering.{eq_by_cmp}
-use Rattle.std.specs.BTreeMap.{get}
 use Rattle.object_name.specs.Name.{ObjectName, name_cmp}
 use Rattle.thunk_codec.specs.declared.reference.Ref.TheVariants.{Out}
 use Rattle.thunk_codec.specs.declared.job.Job.{Job}
@@ -21,7 +20,7 @@ use Rattle.need_eval.specs.Evaluation.{finished, reduce}
 use Rattle.need_eval.specs.Machine.{resume}
 use Rattle.need_eval.specs.PartWay.{state_after, IsPartWay, Stops}
 use Rattle.need_eval.specs.Putting.{Puts, after_writes}
-use Rattle.need_eval.specs.Walking.{walking, left, innermost, blocked_at, StandsAt, Supplied}
+use Rattle.need_eval.specs.Walking.{walking, left, reduced_at, innermost, blocked_at, StandsAt, Supplied}
 use Rattle.need_eval.specs.Turning.{IsReady, Leaves}
 use Rattle.need_eval.proofs.Growth.{Grows-stay, resume-grows}
 use Rattle.need_eval.proofs.Stopping.{part_way-unwritten, Stops-earlier}
@@ -47,7 +46,7 @@ leaves-as w after outputs leaves inner outer frames =
       left_frames = leaves.left_frames ∙ same-outer w leaves.frames frames;
       done = leaves.done ∙ ap (λ (frame : Frame). frame.outer.done) same;
       rest = leaves.rest ∙ ap (λ (frame : Frame). Out frame.name frame.index ∷ frame.outer.rest.items) same;
-      reduced = λ other. leaves.reduced other ∙ ap (λ (frame : Frame). if eq_by_cmp name_cmp frame.name other then Some outputs else get name_cmp w.reduced other) same;
+      reduced = λ other. leaves.reduced other ∙ ap (λ (frame : Frame). if eq_by_cmp name_cmp frame.name other then Some outputs else reduced_at w other) same;
       steps = leaves.steps;
     }
 

@@ -24,3 +24,4 @@ pub mod Advancing
 pub mod StoreOne
 pub mod Outputs
 pub mod Finishing
+pub mod NameEquality

@@ -1,9 +1,8 @@
 -- What is left of an evaluation after a turn of a walker.
 use Rattle.std.proofs.Common.{◌≡◌, ◌≤◌, ◌<◌, ℕ, suc, List, [], ◌∷◌, ◌++◌, drop, Option, Some, None, refl, sym, ap, subst, ◌∙◌}
 use Rattle.std.proofs.lemmas.Bool.{lt-ltb, le-ltb}
-use Rattle.std.specs.BTreeMap.{get}
 use Rattle.object_name.specs.declared.kind.Kind.TheVariants as kinds
-use Rattle.object_name.specs.Name.{ObjectName, name_cmp}
+use Rattle.object_name.specs.Name.{ObjectName}
 use Rattle.thunk_codec.specs.declared.reference.Ref.{Ref}
 use Rattle.thunk_codec.specs.declared.reference.Ref.TheVariants.{Value, Out}
 use Rattle.thunk_codec.specs.declared.job.Job.{Job}
@@ -20,7 +19,7 @@ use Rattle.need_eval.specs.Evaluation.{object, thunk_at, count}
 use Rattle.need_eval.specs.Machine.{resume}
 use Rattle.need_eval.specs.Pieces.{StopsReading, entry, stepped}
 use Rattle.need_eval.specs.PartWay.{StopsWith}
-use Rattle.need_eval.specs.Walking.{walking, left}
+use Rattle.need_eval.specs.Walking.{walking, left, reduced_at}
 use Rattle.need_eval.specs.Turning.{IsOutput}
 use Rattle.need_eval.proofs.ReadOnly.{StopsReading-go_on}
 use Rattle.need_eval.proofs.Turns.{pick, turn-value, turn-value-stops, turn-known-value, turn-known-thunk, turn-known-stops, turn-known-spent, turn-enter, turn-enter-stops}
@@ -79,13 +78,13 @@ module _ (w : Walker) (store : Store) (answer : ℕ → Job → Option Outcome) 
           (turn-known-spent answer w.budget w.frames.items w.level.done name index (drop 1 w.level.rest.items) known.outputs output here store fault known.reduced picked kind h)
 
     -- an output that isn't there
-    pub onward-no-output : (outputs : List ObjectName) (fault : EvalFault) → get name_cmp w.reduced name ≡ Some outputs → StopsReading (pick name index outputs here) store fault → StopsReading (left answer w here) store fault
+    pub onward-no-output : (outputs : List ObjectName) (fault : EvalFault) → reduced_at w name ≡ Some outputs → StopsReading (pick name index outputs here) store fault → StopsReading (left answer w here) store fault
     onward-no-output outputs fault reduced h =
         stops-at-next (Out name index) fault is
         (turn-known-stops answer w.budget w.frames.items w.level.done name index (drop 1 w.level.rest.items) outputs here store fault reduced h)
 
     -- a thunk that wasn't reduced
-    module _ (fresh : get name_cmp w.reduced name ≡ None) where
+    module _ (fresh : reduced_at w name ≡ None) where
       pub onward-enter : (t : Parts) (frame : Frame) (frames : List Frame) (done : List ObjectName) (rest : List Ref) (steps : ℕ) → thunk_at name here ≡ Got t here → entry w.budget name index t here ≡ Got t (stepped here) → frame.name ≡ name → frame.index ≡ index → frame.thunk ≡ t → frame.outer.done ≡ w.level.done → frame.outer.rest.items ≡ drop 1 w.level.rest.items → frames ≡ frame ∷ w.frames.items → done ≡ [] → rest ≡ refs_of t → steps ≡ suc w.steps → left answer w here ≡ resume answer w.budget frames done rest (record here { steps = steps })
       onward-enter t frame frames done rest steps read entering names indices thunks dones rests framed nothing wanted stepping =
           at-next (Out name index) is

@@ -1,7 +1,6 @@
 -- What the turns of a walker do, by their answers.
 use Rattle.std.specs.Prelude.{◌≡◌, ℕ, List, [], ◌∷◌, true, Option, Some, None, Result, Ok, Err, slice_get, if◌then◌else◌}
 use Rattle.std.specs.Ordering.{eq_by_cmp}
-use Rattle.std.specs.BTreeMap.{get}
 use Rattle.object_name.specs.Name.{ObjectName, name_cmp}
 use Rattle.thunk_codec.specs.declared.reference.Ref.TheVariants.{Out}
 use Rattle.thunk_codec.specs.declared.job.Job.{Job}
@@ -14,7 +13,7 @@ use Rattle.need_eval.specs.declared.frame.Frame.{Frame}
 use Rattle.need_eval.specs.declared.walker.Walker.{Walker}
 use Rattle.need_eval.specs.declared.walker.Walked.{Walked}
 use Rattle.need_eval.specs.declared.standing.Standing.{Standing}
-use Rattle.need_eval.specs.Walking.{walking, left, is_over, GoesOn, Advances, StandsAs}
+use Rattle.need_eval.specs.Walking.{walking, left, reduced_at, is_over, GoesOn, Advances, StandsAs}
 use Rattle.need_eval.specs.Pieces.{StopsReading}
 
 -- what is left of the evaluation stops so, with any answers
@@ -42,7 +41,7 @@ TurnStands standing (Err fault) = is_over standing ≡ true
 -- this is an output of a thunk that was reduced
 pub record IsOutput (w : Walker) (name : ObjectName) (index : ℕ) (output : ObjectName) : Type 0 where
   pub outputs : List ObjectName
-  pub reduced : get name_cmp w.reduced name ≡ Some outputs
+  pub reduced : reduced_at w name ≡ Some outputs
   pub found : slice_get outputs index ≡ Some output
 
 -- a walker has the limits of another
@@ -66,7 +65,7 @@ pub record Leaves (before after : Walker) (outputs : List ObjectName) : Type 0 w
   pub left_frames : after.frames.items ≡ outer
   pub done : after.level.done ≡ inner.outer.done
   pub rest : after.level.rest.items ≡ Out inner.name inner.index ∷ inner.outer.rest.items
-  pub reduced : (other : ObjectName) → get name_cmp after.reduced other ≡ (if eq_by_cmp name_cmp inner.name other then Some outputs else get name_cmp before.reduced other)
+  pub reduced : (other : ObjectName) → reduced_at after other ≡ (if eq_by_cmp name_cmp inner.name other then Some outputs else reduced_at before other)
   pub steps : after.steps ≡ before.steps
 
 -- a thunk was entered, all values that were wanted for the innermost are there, and this is its name

@@ -1,7 +1,8 @@
 -- A walker and the store: what is left of the evaluation, and what the walker's calls do to it.
 use Rattle.std.specs.Prelude.{◌≡◌, ◌≤◌, ◌-◌, ℕ, List, [], ◌∷◌, ◌++◌, length, Bool, true, false, Option, Some, None, IsSome, Result, Ok, Err}
-use Rattle.std.specs.BTreeMap.{get}
-use Rattle.object_name.specs.Name.{ObjectName, name_of, name_cmp}
+use Rattle.std.specs.HashMap.{get}
+use Rattle.object_name.specs.Name.{ObjectName, name_of}
+use Rattle.object_name.specs.contracts.name.NamePartialEq.TheImpl as name_equality
 use Rattle.thunk_codec.specs.declared.job.Job.{Job}
 use Rattle.thunk_codec.specs.declared.job.Outcome.{Outcome}
 use Rattle.thunk_codec.specs.declared.reference.Ref.{Ref}
@@ -24,9 +25,13 @@ use Rattle.need_eval.specs.Machine.{resume, work_left}
 use Rattle.need_eval.specs.PartWay.{Stops}
 use Rattle.need_eval.specs.Pieces.{StopsReading}
 
+-- the outputs of the thunk of this name, where it was reduced
+abbrev pub reduced_at : Walker → ObjectName → Option (List ObjectName)
+reduced_at w name = get (name_equality.ghosts).eq w.reduced name
+
 -- the state of the evaluation: what the walker and the store have of it, and the writes made and jobs asked for so far
 abbrev pub walking : Walker → Store → List Write → List Job → State
-walking w store writes asked = record { store = store; reduced = λ name. get name_cmp w.reduced name; steps = w.steps; writes = writes; asked = asked }
+walking w store writes asked = record { store = store; reduced = reduced_at w; steps = w.steps; writes = writes; asked = asked }
 
 -- what is left of the evaluation
 abbrev pub left : (ℕ → Job → Option Outcome) → Walker → Eval (List ObjectName)
@@ -41,7 +46,7 @@ pub record IsFresh (refs : List Ref) (budget : ℕ) (w : Walker) : Type 0 where
   pub frames : w.frames.items ≡ []
   pub done : w.level.done ≡ []
   pub rest : w.level.rest.items ≡ refs
-  pub reduced : (name : ObjectName) → get name_cmp w.reduced name ≡ None
+  pub reduced : (name : ObjectName) → reduced_at w name ≡ None
   pub steps : w.steps ≡ 0
   pub budgets : w.budget ≡ budget
 

@@ -12,14 +12,12 @@ use thunk_codec::Thunk;
 
 impl Walker {
     ghost use Rattle.std.specs.Prelude.{◌≡◌, ◌≤◌, ◌<◌, ◌∷◌, ℕ, drop, None, IfErr, OnOk};
-    ghost use Rattle.std.specs.BTreeMap.{get};
-    ghost use Rattle.object_name.specs.Name.{name_cmp};
     ghost use Rattle.object_name.specs.declared.kind.Kind.TheVariants as kinds;
     ghost use Rattle.thunk_codec.specs.declared.reference.Ref.TheVariants.{Value, Out};
     ghost use Rattle.blob_store.specs.Store.{Store};
     ghost use Rattle.need_eval.specs.Eval.{State};
     ghost use Rattle.need_eval.specs.Pieces.{Reads, KeeperCause, entry, stepped};
-    ghost use Rattle.need_eval.specs.Walking.{work_of};
+    ghost use Rattle.need_eval.specs.Walking.{reduced_at, work_of};
     ghost use Rattle.need_eval.specs.Turning.{Turns, IsOutput, HasSetup};
 
     /// Takes a value that is wanted next.
@@ -111,7 +109,7 @@ impl Walker {
         index: u32,
     ) -> Result<(), EvalFault>
         requires next { self.old.level.rest.items ≡ Out name index ∷ drop 1 self.old.level.rest.items }
-        requires not_reduced { get name_cmp self.old.reduced name ≡ None }
+        requires not_reduced { reduced_at self.old name ≡ None }
         ensures turns { K.tells → Turns self.old self.new (K.store keeper.old) result }
         ensures same { K.tells → K.store keeper.new ≡ K.store keeper.old }
         ensures later { K.faults keeper.old ≤ K.faults keeper.new }

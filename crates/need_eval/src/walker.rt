@@ -10,7 +10,7 @@ use crate::standing::{Prepared, Standing};
 use blob_store::Keeper;
 use object_name::{Many, Name};
 use std::alloc::{AllocError, Global};
-use std::collections::{BTreeMap, VecDeque};
+use std::collections::{HashMap, VecDeque};
 use std::mem::replace;
 use thunk_codec::{Outcome, Ref};
 
@@ -20,7 +20,7 @@ use thunk_codec::{Outcome, Ref};
 pub struct Walker {
     pub(crate) frames: VecDeque<Frame>,
     pub(crate) level: Level,
-    pub(crate) reduced: BTreeMap<Name, Many<Name>>,
+    pub(crate) reduced: HashMap<Name, Many<Name>>,
     pub(crate) steps: u32,
     pub(crate) budget: u32,
     pub(crate) retries: u32,
@@ -67,7 +67,7 @@ impl Walker {
         Ok(Walker {
             frames: VecDeque::new(alloc),
             level,
-            reduced: BTreeMap::new(alloc),
+            reduced: HashMap::new(alloc),
             steps: 0,
             budget,
             retries,

@@ -1,6 +1,8 @@
 use Rattle.std.proofs.Common.{◌≡◌, refl, sym, ap, subst, ◌∙◌, ◌∷◌, ◌++◌}
-use Rattle.std.specs.Prelude.{IsTrue, option_to_list}
+use Rattle.std.specs.Prelude.{IsTrue, Some, option_to_list, if◌then◌else◌}
 use Rattle.need_eval.specs.Machine.{is_sound}
+use Rattle.need_eval.specs.Walking.{reduced_at}
+use Rattle.need_eval.proofs.NameEquality.{equality-ties}
 use Rattle.need_eval.proofs.Sound.{sound-leave}
 use Rattle.need_eval.proofs.walker.Walker.leave.Goals as goal
 
@@ -22,6 +24,6 @@ returns-clause-leaves c = record {
   left_frames = refl;
   done = refl;
   rest = c.in_ok-push_front.ensures.items;
-  reduced = c.in_ok-insert.ensures.updates.0;
+  reduced = λ other. c.in_ok-insert.ensures.updates.0 other ∙ ap (λ same. if same then Some c.args.outputs else reduced_at c.args.self.now other) (equality-ties c.unwrap-inner.result.name other);
   steps = refl;
 }
