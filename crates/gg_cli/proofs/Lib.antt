@@ -4,3 +4,4 @@ pub mod PrintingLemmas
 pub mod TopLemmas
 pub mod WordLemmas
 pub mod Repeats
+pub mod Meeting

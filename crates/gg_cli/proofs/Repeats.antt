@@ -1,10 +1,9 @@
 -- References that stand twice.
-use Rattle.std.proofs.Common.{◌≡◌, ℕ, ◌+◌, ◌<◌, ◌≤◌, Bool, true, false, List, [], ◌∷◌, ◌++◌, length, take, drop, get_or, Some, None, refl, sym, ap, subst, ◌∙◌}
-use Rattle.std.specs.Prelude.{All, bytes_eq}
+use Rattle.std.proofs.Common.{◌≡◌, ℕ, ◌+◌, ◌<◌, ◌≤◌, Bool, true, false, List, [], ◌∷◌, ◌++◌, length, take, drop, get_or, Some, None, refl, sym, ap, ◌∙◌}
+use Rattle.std.specs.Prelude.{bytes_eq}
 use Rattle.std.specs.Bool.{Decides}
 use Rattle.std.proofs.lemmas.Bool.Decides.{same_from_decides}
 use Rattle.std.proofs.lemmas.List.{take_more, drop_more, drop_all}
-use Rattle.std.proofs.lemmas.List.Folds.{list_any_more, list_any_at}
 use Rattle.std.proofs.lemmas.Slice.Eq.{bytes_eq-Decides}
 use Rattle.thunk_codec.specs.declared.reference.Ref.{Ref}
 use Rattle.thunk_codec.specs.Reference.{IsRef, ref_text}
@@ -12,26 +11,9 @@ use Rattle.thunk_codec.proofs.References.{same_ref}
 use Rattle.gg_cli.specs.Answer.{stands_in, first_repeated}
 
 -- references are one exactly where their texts are
-same_text : (a b : Ref) (r : Bool) → IsRef a → IsRef b → Decides r (a ≡ b) → r ≡ bytes_eq (ref_text a) (ref_text b)
+pub same_text : (a b : Ref) (r : Bool) → IsRef a → IsRef b → Decides r (a ≡ b) → r ≡ bytes_eq (ref_text a) (ref_text b)
 same_text a b r ha hb is = let texts = bytes_eq-Decides (ref_text a) (ref_text b) in
     same_from_decides r (bytes_eq (ref_text a) (ref_text b)) is ((λ same. same_ref a b ha hb (texts.0 same)), (λ same. texts.1 (ap ref_text same)))
-
-module _ (items : List Ref) (index : ℕ) (other item : Ref) (lt : index < length items) (at : other ≡ get_or items index other) (items_are : All IsRef items) (item_is : IsRef item) (r : Bool)
-    (is : Decides r (other ≡ item)) where
-  -- whether one of them is spelled as the item
-  same_as : r ≡ bytes_eq (ref_text other) (ref_text item)
-  same_as = same_text other item r (subst IsRef (sym at) (items_are index other lt)) item_is is
-
-  -- one that is another
-  pub stands_in-more : stands_in (take index items) item ≡ false → r ≡ false → stands_in (take (index + 1) items) item ≡ false
-  stands_in-more before differs =
-      let here : bytes_eq (ref_text other) (ref_text item) ≡ false = sym same_as ∙ differs in
-      list_any_more (λ other. bytes_eq (ref_text other) (ref_text item)) items index other lt ∙ rw (before, sym at, here) refl
-
-  -- one that is the item
-  pub stands_in-at : r ≡ true → stands_in items item ≡ true
-  stands_in-at same =
-      list_any_at (λ other. bytes_eq (ref_text other) (ref_text item)) items index other lt (ap (λ other. bytes_eq (ref_text other) (ref_text item)) (sym at) ∙ sym same_as ∙ same)
 
 no_more_repeated : (earlier : List Ref) → first_repeated earlier [] ≡ None
 unfolding first_repeated

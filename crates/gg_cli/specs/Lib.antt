@@ -10,3 +10,4 @@ pub mod Commands
 pub mod Faults
 pub mod Writing
 pub mod Ending
+pub mod Met

@@ -1,22 +1,22 @@
 //! Forcing: values of references, from the store to the output.
 
-ghost use Rattle.std.specs.Prelude.{◌≡◌, ◌≢◌, [], ℕ, All, Err, IfOk, IfErr, IsTrue, ◌↔◌};
-ghost use Rattle.std.specs.Option.{option_map};
+ghost use Rattle.std.specs.Prelude.{◌≡◌, ◌≢◌, [], ℕ, All, Err, IfOk, IfErr};
 ghost use Rattle.thunk_codec.specs.Reference.{IsRef};
 ghost use Rattle.need_eval.specs.Eval.{start};
 ghost use Rattle.need_eval.specs.Evaluation.{values_of, by_function};
 ghost use Rattle.gg_cli.specs.Cat.{tool_outcome};
-ghost use Rattle.gg_cli.specs.Answer.{forced, forced_once, first_repeated, stands_in};
+ghost use Rattle.gg_cli.specs.Answer.{forced, forced_once, first_repeated};
 ghost use Rattle.gg_cli.specs.Faults.{IsFaultOf};
 ghost use Rattle.gg_cli.specs.Ending.{Ends, Values, EndCause};
 
 use crate::cat::CatRunner;
 use crate::fault::TopFault;
+use crate::met::Met;
 use crate::printing::print_values;
 use blob_store::Keeper;
 use need_eval::{EvalFault, evaluate};
 use object_name::{Many, Name, Sink, Trouble};
-use std::alloc::Global;
+use std::alloc::{AllocError, Global};
 use thunk_codec::Ref;
 
 /// The fault that an evaluation ended with.
@@ -66,41 +66,18 @@ fn find_values<K: Keeper>(
     }
 }
 
-/// Whether two references are one.
-fn is_same(reference: &Ref, other: &Ref) -> bool
-    ensures { IsTrue result ↔ (reference.now ≡ other.now) }
-{
-    reference == other
-}
-
-/// Whether a reference stands among some.
-fn contains(earlier: &[Ref], item: &Ref) -> bool
-    requires earlier { All IsRef earlier.now }
-    requires item { IsRef item.now }
-    ensures { result ≡ stands_in earlier.now item.now }
-{
-    'others: for other in earlier {
-        if is_same(other, item) {
-            return true;
-        }
-    }
-    false
-}
-
 /// The first of some references that stands before it too.
-fn find_repeated(items: &[Ref]) -> Option<&Ref>
+fn find_repeated(alloc: Global, items: &[Ref]) -> Result<Option<Ref>, AllocError>
     requires { All IsRef items.now }
-    ensures { option_map (λ item. item.now) result ≡ first_repeated [] items.now }
+    ensures { IfOk result (λ found. found ≡ first_repeated [] items.now) }
 {
-    let mut index = 0;
-    'items: while index < items.len() {
-        let item = &items[index];
-        if contains(&items[..index], item) {
-            return Some(item);
+    let mut met = Met::new(alloc);
+    'items: for item in items {
+        if !met.insert(item)? {
+            return Ok(Some(*item));
         }
-        index += 1;
     }
-    None
+    Ok(None)
 }
 
 /// Does `force` where no item stands twice: a line for each value goes to the output.
@@ -139,8 +116,8 @@ pub(crate) fn force<K: Keeper, O: Sink>(
     ensures cause { EndCause (K.faults keeper.old) (K.faults keeper.new) (O.faults out.old) (O.faults out.new) result }
     ensures no_usage { result ≢ Err TopFault.Usage }
 {
-    match find_repeated(items) {
-        Some(item) => Err(TopFault::Twice(*item)),
+    match find_repeated(alloc, items)? {
+        Some(item) => Err(TopFault::Twice(item)),
         None => force_each(alloc, keeper, out, budget, items),
     }
 }

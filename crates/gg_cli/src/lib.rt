@@ -4,6 +4,7 @@
 mod cat;
 mod fault;
 mod forcing;
+mod met;
 mod printing;
 mod saying;
 mod status;
