@@ -9,3 +9,6 @@ pub mod Loops
 pub mod AsAre
 pub mod Made
 pub mod Decodes
+pub mod Encodes
+pub mod Resolves
+pub mod Makes

@@ -116,7 +116,7 @@ rules_from t refs size h =
     }
 
 -- a thunk's parts pass the test
-rules_test : (t : Parts) → IsThunk t → keeps_rules t ≡ true
+pub rules_test : (t : Parts) → IsThunk t → keeps_rules t ≡ true
 rules_test t h =
     and_from _ _ h.args (and_from _ _ h.keys (and_from _ _ h.env_values (and_from _ _ h.keys_rise (and_from _ _ h.input_paths (and_from _ _ h.paths_rise
     (and_from _ _ (le-leb _ _ h.few_inputs) (and_from _ _ h.output_paths (and_from _ _ h.outputs_differ (and_from _ _ (le-leb _ _ h.some_output) (le-leb _ _ h.few_outputs))))))))))

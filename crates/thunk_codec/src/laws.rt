@@ -1,13 +1,17 @@
 //! Laws of paths, references, thunks and jobs that no single call shows.
 
-ghost use Rattle.std.specs.Prelude.{IsTrue, ◌≡◌, ◌↔◌, ◌++◌, [], List, ℕ, Some, length, map};
+ghost use Rattle.std.specs.Prelude.{IsTrue, ◌≡◌, ◌≤◌, ◌<◌, ◌^◌, ◌↔◌, ◌++◌, [], List, ℕ, Some, length, map};
+ghost use Rattle.std.specs.List.{AllByRecursion};
+ghost use Rattle.object_name.specs.Name.{ObjectName, max_size};
 ghost use Rattle.thunk_codec.specs.declared.job.Job.{Job};
 ghost use Rattle.thunk_codec.specs.declared.reference.Ref.{Ref};
+ghost use Rattle.thunk_codec.specs.declared.reference.Ref.TheVariants.{Value};
 ghost use Rattle.thunk_codec.specs.Path.{path_of, is_path};
 ghost use Rattle.thunk_codec.specs.Reference.{IsRef, ref_text, ref_of};
-ghost use Rattle.thunk_codec.specs.Thunk.{Parts, Text};
+ghost use Rattle.thunk_codec.specs.Thunk.{Parts, IsThunk, Text};
 ghost use Rattle.thunk_codec.specs.Reading.{thunk_of};
 ghost use Rattle.thunk_codec.specs.Job.{job_size, size_by_lengths};
+ghost use Rattle.thunk_codec.specs.Resolved.{refs_of, resolved_by, AreNames, HaveValueKind, OfThunk, HaveObjectLengths};
 
 /// A normal path is its own normal path, and the normal path of a text is one.
 pub fn paths_stand()
@@ -45,4 +49,21 @@ pub fn no_front()
 /// The length of a job's encoding is known from the lengths of its objects.
 pub fn job_length()
     ensures { (j : Job) → job_size j ≡ size_by_lengths (length j.function) j.args j.envs (map (λ i. (i.0, length i.1)) j.inputs) j.outputs }
+{}
+
+/// The length of a job's encoding is small.
+pub fn jobs_are_short()
+    ensures { (function : ℕ) (args : List (List ℕ)) (envs : List (List ℕ × List ℕ)) (inputs : List (List ℕ × ℕ)) (outputs : List (List ℕ))
+        → function ≤ max_size → HaveObjectLengths inputs → OfThunk args envs (map (λ i. i.0) inputs) outputs → size_by_lengths function args envs inputs outputs < 2 ^ 40 }
+{}
+
+/// The references of a thunk are references.
+pub fn thunks_have_refs()
+    ensures { (t : Parts) → IsThunk t → AllByRecursion IsRef (refs_of t) }
+{}
+
+/// A thunk with values in place of its references is a thunk, and they are its references.
+pub fn resolved_thunks()
+    ensures thunk { (t : Parts) (values : List ObjectName) → IsThunk t → AreNames values → HaveValueKind values → IsThunk (resolved_by t values) }
+    ensures refs { (t : Parts) (values : List ObjectName) → length values ≡ length (refs_of t) → refs_of (resolved_by t values) ≡ map Value values }
 {}

@@ -1,7 +1,9 @@
 //! References to objects: values by name, and outputs of thunks.
 
-ghost use Rattle.std.specs.Prelude.{◌≡◌, ◌++◌, ◌∷◌, ◌<◌, take, length, decimal, IfSome, Some, OnOk, OnErr};
+ghost use Rattle.std.specs.Prelude.{◌≡◌, ◌↔◌, ◌++◌, ◌∷◌, ◌<◌, IsTrue, take, length, decimal, IfSome, Some, OnOk, OnErr};
+ghost use Rattle.object_name.specs.Name.{IsName};
 ghost use Rattle.thunk_codec.specs.declared.reference.Ref.{Ref};
+ghost use Rattle.thunk_codec.specs.declared.reference.Ref.TheVariants.{Value, Out};
 ghost use Rattle.thunk_codec.specs.Reference.{IsRef, ref_text, ref_of, value_ref_of, out_ref_of};
 ghost use Rattle.thunk_codec.specs.Job.{ref_name};
 
@@ -45,7 +47,6 @@ impl Ref {
 
     /// Appends the spelling.
     pub fn write(&self, out: &mut Bytes) -> Result<(), AllocError>
-        requires { IsRef self.now }
         ensures ok { OnOk result (out.new ≡ out.old ++ ref_text self.now) }
         ensures err { OnErr result (out.new ≡ out.old) }
     {
@@ -61,6 +62,39 @@ impl Ref {
 impl TryCopy for Ref {
     fn copy(&self, _alloc: Global) -> Result<Self, AllocError> {
         Ok(*self)
+    }
+}
+
+/// Tells contracts what the type keeps of a name.
+pub fn vouch(name: &Name)
+    ensures { IsName name.now }
+{
+    name.spell(&mut [0; SPELLING]);
+}
+
+/// Whether a value may have this name.
+fn is_value(name: &Name) -> bool
+    ensures { IsTrue result ↔ IsRef (Value name.now) }
+{
+    vouch(name);
+    name.kind() == Kind::Value
+}
+
+/// Whether a thunk may have this name, of which this is an output.
+fn is_output(name: &Name, _index: u32) -> bool
+    ensures { IsTrue result ↔ IsRef (Out name.now _index) }
+{
+    vouch(name);
+    name.kind() == Kind::Thunk
+}
+
+/// Whether a reference names an object of its kind.
+pub fn is_ref(reference: &Ref) -> bool
+    ensures { IsTrue result ↔ IsRef reference.now }
+{
+    match reference {
+        Ref::Value(name) => is_value(name),
+        Ref::Out(name, index) => is_output(name, *index),
     }
 }
 

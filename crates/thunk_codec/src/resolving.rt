@@ -1,11 +1,33 @@
 //! Thunks with names of values in place of their references.
 
-ghost use Rattle.std.specs.Prelude.{◌≡◌, IfOk, length};
-ghost use Rattle.thunk_codec.specs.Resolved.{refs_of, resolved_by, HaveValueKind};
+ghost use Rattle.std.specs.Prelude.{◌≡◌, IfOk, OnOk, length};
+ghost use Rattle.thunk_codec.specs.Resolved.{refs_of, with_values, resolved_by, AreNames, HaveValueKind};
 
+use crate::path::Path;
+use crate::reference::{Ref, vouch};
 use crate::thunk::Thunk;
-use object_name::Name;
+use object_name::{Many, Name, TryCopy};
 use std::alloc::{AllocError, Global};
+
+/// Inputs with values in place of what stands there.
+fn inputs_with(
+    alloc: Global,
+    inputs: &[(Path, Ref)],
+    values: &[Name],
+) -> Result<Many<(Path, Ref)>, AllocError>
+    requires { length values.now ≡ length inputs.now }
+    ensures made { IfOk result (λ made. made ≡ with_values inputs.now values.now) }
+    ensures names { OnOk result (AreNames values.now) }
+{
+    let mut made = Many::new(alloc);
+    'inputs: for (i, input) in inputs.iter().enumerate() {
+        let value = values[i];
+        vouch(&value);
+        let path = input.0.copy(alloc)?;
+        made.push((path, Ref::Value(value)))?;
+    }
+    Ok(made)
+}
 
 /// The thunk with values in place of its function and of what stands at its inputs, in order.
 pub fn resolve(alloc: Global, thunk: &Thunk, values: &[Name]) -> Result<Thunk, AllocError>
@@ -13,6 +35,12 @@ pub fn resolve(alloc: Global, thunk: &Thunk, values: &[Name]) -> Result<Thunk, A
     requires kinds { HaveValueKind values.now }
     ensures { IfOk result (λ t. t ≡ resolved_by thunk.now values.now) }
 {
-    // A stub: want of memory.
-    Err(AllocError)
+    match values {
+        [] => thunk.copy(alloc),
+        [function, others @ ..] => {
+            vouch(function);
+            let inputs = inputs_with(alloc, thunk.inputs(), others)?;
+            thunk.with_refs(alloc, Ref::Value(*function), inputs)
+        }
+    }
 }

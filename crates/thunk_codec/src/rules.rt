@@ -1,6 +1,6 @@
 //! The rules that the parts of a thunk keep.
 
-ghost use Rattle.std.specs.Prelude.{◌≡◌, ◌&&◌, ◌||◌, not, map, bytes_eq};
+ghost use Rattle.std.specs.Prelude.{◌≡◌, ◌&&◌, ◌||◌, not, map, nat_le, bytes_eq};
 ghost use Rattle.std.specs.List.{list_all, list_any};
 ghost use Rattle.std.specs.Ordering.{nat_cmp, is_lt};
 ghost use Rattle.std.specs.Cmp.Lexicographic.{slice_cmp};
@@ -8,6 +8,8 @@ ghost use Rattle.thunk_codec.specs.Raw.{parts_of, keeps_numbers, keeps_bytes, ke
 ghost use Rattle.thunk_codec.specs.Thunk.{has_no_zero, is_letter, is_digit, is_identifier, rises, are_distinct};
 
 use crate::parts::RawParts;
+use crate::path::Path;
+use crate::reference::Ref;
 use object_name::Bytes;
 
 /// Whether no byte is zero.
@@ -72,6 +74,23 @@ fn rise<T>(items: &[(Bytes, T)]) -> bool
     true
 }
 
+/// Whether each path is before the next.
+fn paths_rise(inputs: &[(Path, Ref)]) -> bool
+    ensures { result ≡ rises (map (λ input. input.0) inputs.now) }
+{
+    let mut rest = inputs;
+    'inputs: while let [first, others @ ..] = rest {
+        let Some(second) = others.first() else {
+            return true;
+        };
+        if !is_before(first.0.text(), second.0.text()) {
+            return false;
+        }
+        rest = others;
+    }
+    true
+}
+
 /// Whether a text is one of some.
 fn is_among(text: &[u8], others: &[Bytes]) -> bool
     ensures { result ≡ list_any (bytes_eq text.now) others.now }
@@ -86,6 +105,27 @@ fn are_distinct(texts: &[Bytes]) -> bool
     let mut rest = texts;
     'texts: while let [first, others @ ..] = rest {
         if is_among(first.as_slice(), others) {
+            return false;
+        }
+        rest = others;
+    }
+    true
+}
+
+/// Whether a path is one of some.
+fn is_path_among(path: &Path, others: &[Path]) -> bool
+    ensures { result ≡ list_any (bytes_eq path.now) others.now }
+{
+    others.iter().any(|other| path == other)
+}
+
+/// Whether no path stands twice.
+fn paths_are_distinct(paths: &[Path]) -> bool
+    ensures { result ≡ are_distinct paths.now }
+{
+    let mut rest = paths;
+    'paths: while let [first, others @ ..] = rest {
+        if is_path_among(first, others) {
             return false;
         }
         rest = others;
@@ -115,21 +155,41 @@ fn args_have_no_zero(args: &[Bytes]) -> bool
 }
 
 /// Whether there are few enough inputs, and as many outputs as a thunk has.
-pub fn keeps_numbers(raw: &RawParts) -> bool
-    ensures { result ≡ keeps_numbers (parts_of raw.now) }
+pub fn keep_numbers(inputs: usize, outputs: usize) -> bool
+    ensures { result ≡ (nat_le inputs 4096 && (nat_le 1 outputs && nat_le outputs 64)) }
 {
-    raw.inputs.len() <= 4096 && (1 <= raw.outputs.len() && raw.outputs.len() <= 64)
+    inputs <= 4096 && (1 <= outputs && outputs <= 64)
 }
 
-/// Whether the arguments and the environment have the bytes that they may have.
-pub fn keeps_bytes(raw: &RawParts) -> bool
-    ensures { result ≡ keeps_bytes (parts_of raw.now) }
+/// Whether arguments and an environment have the bytes that they may have.
+pub fn keep_bytes(args: &[Bytes], envs: &[(Bytes, Bytes)]) -> bool
+    ensures { result ≡ (list_all has_no_zero args.now && (list_all (λ env. is_identifier env.0) envs.now && list_all (λ env. has_no_zero env.1) envs.now)) }
 {
-    args_have_no_zero(raw.args.as_slice())
-        && (have_identifiers(raw.envs.as_slice()) && have_no_zero(raw.envs.as_slice()))
+    args_have_no_zero(args) && (have_identifiers(envs) && have_no_zero(envs))
 }
 
 /// Whether keys and inputs stand in their orders, and no output stands twice.
+pub fn keep_orders(envs: &[(Bytes, Bytes)], inputs: &[(Path, Ref)], outputs: &[Path]) -> bool
+    ensures { result ≡ (rises (map (λ env. env.0) envs.now) && (rises (map (λ input. input.0) inputs.now) && are_distinct outputs.now)) }
+{
+    rise(envs) && (paths_rise(inputs) && paths_are_distinct(outputs))
+}
+
+/// The same of the parts of a text.
+pub fn keeps_numbers(raw: &RawParts) -> bool
+    ensures { result ≡ keeps_numbers (parts_of raw.now) }
+{
+    keep_numbers(raw.inputs.len(), raw.outputs.len())
+}
+
+/// The same of the parts of a text.
+pub fn keeps_bytes(raw: &RawParts) -> bool
+    ensures { result ≡ keeps_bytes (parts_of raw.now) }
+{
+    keep_bytes(raw.args.as_slice(), raw.envs.as_slice())
+}
+
+/// The same of the parts of a text.
 pub fn keeps_orders(raw: &RawParts) -> bool
     ensures { result ≡ keeps_orders (parts_of raw.now) }
 {

@@ -1,6 +1,6 @@
 //! Thunks: a function, its arguments, environment and inputs, and the names of its outputs.
 
-ghost use Rattle.std.specs.Prelude.{◌≡◌};
+ghost use Rattle.std.specs.Prelude.{◌≡◌, IfOk};
 ghost use Rattle.thunk_codec.specs.Thunk.{IsThunk};
 ghost use Rattle.thunk_codec.specs.Job.{resolved_size};
 
@@ -50,6 +50,28 @@ impl Thunk {
             inputs,
             outputs,
         }
+    }
+
+    /// A copy, with this function and these inputs.
+    pub(crate) fn with_refs(
+        &self,
+        alloc: Global,
+        function: Ref,
+        inputs: Many<(Path, Ref)>,
+    ) -> Result<Self, AllocError>
+        requires { IsThunk self.now → IsThunk (record self.now { function = function; inputs = inputs }) }
+        ensures { IfOk result (λ t. t ≡ record self.now { function = function; inputs = inputs }) }
+    {
+        let args = self.args.copy(alloc)?;
+        let envs = self.envs.copy(alloc)?;
+        let outputs = self.outputs.copy(alloc)?;
+        Ok(Thunk {
+            function,
+            args,
+            envs,
+            inputs,
+            outputs,
+        })
     }
 
     pub fn function(&self) -> &Ref
