@@ -1,12 +1,24 @@
 //! Evaluation by need: the values of references, from a store, thunk by thunk.
 #![tactic(auto)]
 
+#[cfg(test)]
+mod compared;
 mod evaluating;
 mod fault;
 mod frame;
 mod jobs;
+#[cfg(test)]
+mod joining;
+#[cfg(test)]
+mod plain;
 mod reading;
+#[cfg(test)]
+mod scenes;
 mod standing;
+#[cfg(test)]
+mod tests;
+#[cfg(test)]
+mod texts;
 mod walker;
 
 pub use evaluating::{Values, evaluate};

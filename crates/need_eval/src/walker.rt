@@ -64,11 +64,7 @@ impl Walker {
     }
 
     /// Goes on up to the end, or to a job whose outcome isn't there. Nothing is written. After a fault it is over.
-    pub fn advance<K: Keeper>(
-        &mut self,
-        alloc: Global,
-        keeper: &mut K,
-    ) -> Result<Walked, EvalFault>
+    pub fn advance<K: Keeper>(&mut self, alloc: Global, keeper: &mut K) -> Result<Walked, EvalFault>
         requires { self.old.standing ≡ Standing.Walking }
         // What is left of the evaluation is what was left; at a job the evaluation stands at the job of that text.
         ensures walks { K.tells → Advances self.old self.new (K.store keeper.old) result }
