@@ -1,10 +1,9 @@
 //! A function of jobs for tests, of which nothing is told.
 
-ghost use Rattle.std.specs.Prelude.{◌≡◌, ◌≤◌, ◌×◌, IsTrue, IfOk, length, sum_by};
+ghost use Rattle.std.specs.Prelude.{◌≡◌, ◌≤◌, IsTrue, IfOk, length, sum_by};
 ghost use Rattle.std.proofs.Common.{lit≤};
 ghost use Rattle.object_name.specs.Name.{max_size};
 ghost use Rattle.thunk_codec.specs.declared.job.Outcome.TheVariants.{Failed};
-ghost use Rattle.thunk_codec.specs.Outcome.{Fits};
 
 use object_name::{Bytes, MAX_SIZE, Many, Trouble};
 use std::alloc::{AllocError, Global};

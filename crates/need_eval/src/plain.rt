@@ -1,6 +1,6 @@
 //! Evaluation by need as its rules say it: a program that calls itself.
 
-ghost use Rattle.std.specs.Prelude.{◌≡◌, ◌≤◌, IsTrue, length};
+ghost use Rattle.std.specs.Prelude.{◌≡◌, ◌+◌, IsTrue, IfOk};
 ghost use Rattle.thunk_codec.specs.Resolved.{HaveValueKind};
 
 use crate::joining::Joins;

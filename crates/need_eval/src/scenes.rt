@@ -91,7 +91,7 @@ impl Scene {
     /// Adds an object: mostly it is held, but now and then it is absent, or other bytes stand under its name.
     fn keep(&mut self, bytes: &[u8]) -> Result<(), Fail> {
         let name = name_of(bytes)?;
-        match self.dice.roll(40) {
+        match self.dice.roll(90) {
             0 => Ok(()),
             1 => self.put(name, b"?"),
             _ => self.put(name, bytes),
@@ -100,7 +100,7 @@ impl Scene {
 
     fn add_thunk(&mut self) -> Result<(), Fail> {
         let mut text = self.text()?;
-        if self.dice.roll(30) == 0 {
+        if self.dice.roll(50) == 0 {
             text.append(b"\n")?;
         }
         self.keep(text.as_slice())?;
@@ -119,7 +119,7 @@ impl Scene {
         self.joining()
     }
 
-    /// A thunk that was added before.
+    /// A place below the number of sides.
     fn place(&mut self, sides: usize) -> usize {
         let sides = u32::try_from(sides).unwrap_or(0);
         self.dice.roll(sides) as usize
@@ -127,10 +127,26 @@ impl Scene {
 
     /// The text of a thunk that was added before.
     fn earlier(&mut self) -> Result<Option<Bytes>, Fail> {
-        let place = self.place(self.thunks.len());
+        let place = self.place(self.count());
+        self.text_at(place)
+    }
+
+    /// How many thunks there are so far.
+    fn count(&self) -> usize {
+        self.thunks.len()
+    }
+
+    fn text_at(&self, place: usize) -> Result<Option<Bytes>, Fail> {
         match self.thunks.as_slice().get(place) {
             Some((_, text)) => Ok(Some(text.copy(self.alloc)?)),
             None => Ok(None),
+        }
+    }
+
+    fn name_at(&self, place: usize) -> Option<Name> {
+        match self.thunks.as_slice().get(place) {
+            Some((name, _)) => Some(*name),
+            None => None,
         }
     }
 
@@ -149,7 +165,7 @@ impl Scene {
     /// A thunk that joins what its references name, or fails.
     fn joining(&mut self) -> Result<Bytes, Fail> {
         let function = self.reference()?;
-        let fails = self.dice.roll(16) == 0;
+        let fails = self.dice.roll(30) == 0;
         let inputs = self.references()?;
         let outputs = self.outputs();
         Ok(thunk_text(self.alloc, &function, fails, inputs.as_slice(), outputs)?)
@@ -172,10 +188,10 @@ impl Scene {
 
     /// A value, or an output of a thunk that was added before, which may not be there.
     fn reference(&mut self) -> Result<Ref, Fail> {
-        let place = self.place(self.thunks.len().saturating_add(3));
-        let index = self.dice.roll(24).saturating_sub(21);
-        match self.thunks.as_slice().get(place) {
-            Some((name, _)) => Ok(Ref::Out(*name, index)),
+        let place = self.place(self.count().saturating_add(3));
+        let index = self.dice.roll(40).saturating_sub(37);
+        match self.name_at(place) {
+            Some(name) => Ok(Ref::Out(name, index)),
             None => self.value(),
         }
     }
@@ -210,7 +226,7 @@ fn spoiled_objects(
 ) -> Result<Many<(Name, Bytes)>, Fail> {
     let mut left = Many::new(alloc);
     for (name, bytes) in objects {
-        let under = match dice.roll(20) {
+        let under = match dice.roll(40) {
             0 => continue,
             1 => b"!".as_slice(),
             _ => bytes.as_slice(),
