@@ -121,10 +121,19 @@ fn compare(
     Ok(Some(plain.content))
 }
 
+/// The thunks of a store, those first that the later ones refer to, or those last.
+fn wanted(alloc: Global, scene: &Scene, seed: u64) -> Result<Many<Name>, Fail> {
+    let mut names = scene.names(alloc)?;
+    if seed & 1 == 1 {
+        names.0.reverse();
+    }
+    Ok(names)
+}
+
 /// Whether both ways agree over the store of a number, and over what is left of it, spoiled.
 fn agree_over(alloc: Global, tally: &mut Tally, seed: u64, budget: u32) -> Result<bool, Fail> {
     let scene = Scene::new(alloc, seed)?;
-    let names = scene.wanted()?;
+    let names = wanted(alloc, &scene, seed)?;
     let content = scene.into_content();
     let Some(after) = compare(alloc, tally, content, names.as_slice(), budget)? else {
         return Ok(false);

@@ -66,9 +66,9 @@ impl Scene {
         Ok(scene)
     }
 
-    /// Outputs of all its thunks.
-    pub fn wanted(&self) -> Result<Many<Name>, Fail> {
-        let mut names = Many::new(self.alloc);
+    /// The names of its thunks, in the order in which they were added.
+    pub fn names(&self, alloc: Global) -> Result<Many<Name>, Fail> {
+        let mut names = Many::new(alloc);
         for (name, _) in self.thunks.as_slice() {
             names.push(*name)?;
         }
@@ -189,7 +189,7 @@ impl Scene {
     /// A value, or an output of a thunk that was added before, which may not be there.
     fn reference(&mut self) -> Result<Ref, Fail> {
         let place = self.place(self.count().saturating_add(3));
-        let index = self.dice.roll(40).saturating_sub(37);
+        let index = self.dice.roll(20).saturating_sub(17);
         match self.name_at(place) {
             Some(name) => Ok(Ref::Out(name, index)),
             None => self.value(),
