@@ -16,10 +16,10 @@ mod reading;
 mod scenes;
 mod standing;
 #[cfg(test)]
-mod tests;
-#[cfg(test)]
 mod texts;
 mod walker;
+#[cfg(test)]
+mod walker_tests;
 
 pub use evaluating::{Values, evaluate};
 pub use fault::{EvalFault, Refusal};

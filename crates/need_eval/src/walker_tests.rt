@@ -1,4 +1,4 @@
-//! Evaluations in memory. No two texts of one name are known, so no test shows a clash.
+//! Walkers and whole evaluations in memory, over one thunk and two.
 
 ghost use Rattle.std.specs.Prelude.{◌≡◌, IfOk, IfErr, OnOk, IsSome, IfSome};
 ghost use Rattle.std.proofs.Common.{lit≤};
