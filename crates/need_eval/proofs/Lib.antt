@@ -5,6 +5,8 @@ pub mod Stopping
 pub mod Asking
 pub mod Outcomes
 pub mod Walks
+pub mod Progress
+pub mod Rounds
 pub mod Fuel
 pub mod Turns
 pub mod Leaving

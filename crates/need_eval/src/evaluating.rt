@@ -1,16 +1,20 @@
 //! Evaluation on one thread.
 
-ghost use Rattle.std.specs.Prelude.{◌≤◌};
+ghost use Rattle.std.specs.Prelude.{◌≡◌, ◌≤◌, IfOk, IfErr, IfSome, IsSome};
 ghost use Rattle.std.specs.List.{AllByRecursion};
+ghost use Rattle.thunk_codec.specs.Outcome.{Fits};
 ghost use Rattle.thunk_codec.specs.Reference.{IsRef};
 ghost use Rattle.need_eval.specs.Evaluating.{EvaluatesAll, EvaluatesSome};
 ghost use Rattle.need_eval.specs.PartWay.{EvalCause, ClashShows};
+ghost use Rattle.need_eval.specs.Pieces.{RunCause};
+ghost use Rattle.need_eval.specs.Walking.{blocked_at};
 
 use crate::fault::EvalFault;
+use crate::walker::{Walked, Walker};
 use blob_store::Keeper;
-use object_name::{Many, Name};
+use object_name::{Many, Name, Trouble};
 use std::alloc::Global;
-use thunk_codec::{Ref, Runner};
+use thunk_codec::{Job, Outcome, Ref, Runner};
 
 /// The values of references, in order, and the steps that they took.
 #[derive(Debug, Drop)]
@@ -39,6 +43,45 @@ pub fn evaluate<K: Keeper, R: Runner>(
     ensures cause { EvalCause retries (K.faults keeper.old) (K.faults keeper.new) (R.faults runner.old) (R.faults runner.new) result }
     ensures clash { ClashShows result }
 {
-    // A stub: want of memory.
-    Err(EvalFault::Memory)
+    let mut walker = Walker::new(alloc, refs, budget, retries)?;
+    'walk: loop {
+        match walker.advance(alloc, keeper)? {
+            Walked::Ended(values) => return Ok(values),
+            Walked::Blocked => {}
+        }
+        let outcome = run_blocked(alloc, &walker, runner)?;
+        walker.supply(alloc, keeper, outcome)?;
+    }
+}
+
+/// The outcome of the job that a walker waits for.
+fn run_blocked<R: Runner>(
+    alloc: Global,
+    walker: &Walker,
+    runner: &mut R,
+) -> Result<Outcome, EvalFault>
+    requires { IsSome (blocked_at walker.now.standing) }
+    ensures fits { IfOk result (λ outcome. IfSome (blocked_at walker.now.standing) (λ prepared. Fits prepared.job outcome)) }
+    ensures told { IfOk result (λ outcome. IfSome (blocked_at walker.now.standing) (λ prepared. R.tells prepared.job → outcome ≡ R.outcome prepared.job)) }
+    ensures later { R.faults runner.old ≤ R.faults runner.new }
+    ensures cause { IfErr result (RunCause (R.faults runner.old) (R.faults runner.new)) }
+{
+    match walker.blocked() {
+        Some(prepared) => run(alloc, runner, &prepared.job),
+        None => unreachable!(),
+    }
+}
+
+/// The outcome of a job.
+fn run<R: Runner>(alloc: Global, runner: &mut R, job: &Job) -> Result<Outcome, EvalFault>
+    ensures fits { IfOk result (λ outcome. Fits job.now outcome) }
+    ensures told { R.tells job.now → IfOk result (λ outcome. outcome ≡ R.outcome job.now) }
+    ensures later { R.faults runner.old ≤ R.faults runner.new }
+    ensures cause { IfErr result (RunCause (R.faults runner.old) (R.faults runner.new)) }
+{
+    match runner.run(alloc, job) {
+        Ok(outcome) => Ok(outcome),
+        Err(Trouble::Failed) => Err(EvalFault::RunFailed),
+        Err(Trouble::Memory) => Err(EvalFault::Memory),
+    }
 }

@@ -6,6 +6,7 @@ mod exits;
 mod fault;
 mod frame;
 mod jobs;
+pub mod laws;
 mod reading;
 mod standing;
 mod supplying;
