@@ -18,3 +18,6 @@ pub use evaluating::{Values, evaluate};
 pub use fault::{EvalFault, Refusal};
 pub use standing::Prepared;
 pub use walker::{Walked, Walker};
+
+#[cfg(test)]
+mod tests;
