@@ -1,6 +1,5 @@
 -- The jobs whose outcome was asked for: their list only grows at its end, and no further than there are answers.
 use Rattle.std.proofs.Common.{◌≡◌, ◌≤◌, ℕ, List, [], ◌∷◌, ◌++◌, Option, Some, None, refl, sym, ap, subst, ◌∙◌, append_assoc, append-nil, length}
-use Rattle.std.specs.Prelude.{nat_le, slice_get}
 use Rattle.std.proofs.lemmas.Bool.{le-leb}
 use Rattle.std.proofs.lemmas.Option.{slice_get_past}
 use Rattle.object_name.specs.Name.{ObjectName, name_of}
@@ -16,7 +15,7 @@ use Rattle.need_eval.specs.declared.fault.Refusal.TheVariants.{TooBig}
 use Rattle.need_eval.specs.declared.frame.Frame.{Frame}
 use Rattle.need_eval.specs.declared.standing.Prepared.{Prepared}
 use Rattle.need_eval.specs.declared.walker.Walker.{Walker}
-use Rattle.need_eval.specs.Eval.{State, Stop, Refused, Stands, Ended, Got, Eval, go_on, ◌>>=◌, ◌>>◌, give, check, need, step, make_write, note_asked, mark}
+use Rattle.need_eval.specs.Eval.{State, Refused, Stands, Ended, Got, Eval, go_on, ◌>>=◌, give, check, need, step, make_write, note_asked, mark}
 use Rattle.need_eval.specs.Evaluation.{job_of, finished, ask, outputs_of, reduce, values_of, by_list}
 use Rattle.need_eval.specs.Machine.{resume}
 use Rattle.need_eval.specs.PartWay.{state_after}

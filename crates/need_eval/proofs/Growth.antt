@@ -1,5 +1,5 @@
 -- The store at the end of an evaluation is the store at its start with the writes put in.
-use Rattle.std.proofs.Common.{◌≡◌, ℕ, List, [], ◌∷◌, ◌++◌, Option, Some, None, refl, sym, ap, ◌∙◌, append_assoc, append-nil, length}
+use Rattle.std.proofs.Common.{◌≡◌, ℕ, List, [], ◌∷◌, ◌++◌, Option, refl, sym, ap, ◌∙◌, append_assoc, append-nil, length}
 use Rattle.object_name.specs.Name.{ObjectName}
 use Rattle.thunk_codec.specs.declared.reference.Ref.{Ref}
 use Rattle.thunk_codec.specs.declared.job.Job.{Job}
@@ -7,7 +7,7 @@ use Rattle.thunk_codec.specs.declared.job.Outcome.{Outcome}
 use Rattle.thunk_codec.specs.Thunk.{Parts}
 use Rattle.blob_store.specs.Store.{Store, Write, written, after_write}
 use Rattle.need_eval.specs.declared.frame.Frame.{Frame}
-use Rattle.need_eval.specs.Eval.{State, Stop, Stands, start, each, need, give, note_asked, mark, ◌>>=◌}
+use Rattle.need_eval.specs.Eval.{State, Stands, start, each, need, give, note_asked, mark, ◌>>=◌}
 use Rattle.need_eval.specs.Evaluation.{ask, store_one, outputs_by, finished, reduce, values_of}
 use Rattle.need_eval.specs.Machine.{resume}
 use Rattle.need_eval.specs.PartWay.{state_after}

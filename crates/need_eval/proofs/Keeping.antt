@@ -18,7 +18,7 @@ use Rattle.blob_store.specs.Store.{Write, held, other_held, storing}
 use Rattle.reduction_cache.specs.Hit.{hit_of, note_write}
 use Rattle.need_eval.specs.declared.fault.Refusal.TheVariants.{Missing, BadThunk, NoOutput, Spent, TooBig}
 use Rattle.need_eval.specs.declared.frame.Frame.{Frame}
-use Rattle.need_eval.specs.Eval.{State, Stop, Refused, Ended, Got, Stopped, Eval, ◌>>=◌, ◌>>◌, go_on, give, check, need, each, step, make_write, mark}
+use Rattle.need_eval.specs.Eval.{State, Stop, Refused, Ended, Got, Stopped, Eval, ◌>>=◌, go_on, give, check, need, each, step, make_write, mark}
 use Rattle.need_eval.specs.Evaluation.{object, held_value, thunk_at, input_object, job_of, no_clash, store_one, outputs_by, finished, ask, outputs_of, reduce, count, entered, outputs_at, output_of, passed, value_by, beyond, value_within, value_of, values_of}
 use Rattle.need_eval.specs.Machine.{resume}
 use Rattle.need_eval.specs.PartWay.{state_after}

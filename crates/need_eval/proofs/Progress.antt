@@ -1,5 +1,5 @@
 -- A walk with outcomes of a function: how it comes on, and what the whole evaluation did when it stops.
-use Rattle.std.proofs.Common.{◌≡◌, ◌≤◌, ℕ, ◌+◌, List, [], ◌∷◌, ◌++◌, Option, Some, Result, Ok, Err, refl, sym, ap, subst, ◌∙◌, length, length-append, arith}
+use Rattle.std.proofs.Common.{◌≡◌, ℕ, ◌+◌, List, [], ◌∷◌, ◌++◌, Option, Some, Result, Ok, Err, refl, sym, ap, subst, ◌∙◌, length, length-append, arith}
 use Rattle.std.specs.List.{AllByRecursion}
 use Rattle.object_name.specs.Name.{ObjectName}
 use Rattle.thunk_codec.specs.declared.reference.Ref.{Ref}
@@ -12,18 +12,18 @@ use Rattle.need_eval.specs.declared.fault.EvalFault.{EvalFault}
 use Rattle.need_eval.specs.declared.standing.Prepared.{Prepared}
 use Rattle.need_eval.specs.declared.walker.Walker.{Walker}
 use Rattle.need_eval.specs.declared.walker.Walked.TheVariants.{Ended as Over}
-use Rattle.need_eval.specs.Eval.{State, Ended, Got, start}
+use Rattle.need_eval.specs.Eval.{State, Ended, start}
 use Rattle.need_eval.specs.Evaluation.{values_of, by_function, by_list}
-use Rattle.need_eval.specs.PartWay.{state_after, Stops, Gives, Does, AreAnswers}
-use Rattle.need_eval.specs.Pieces.{StopsReading, RunCause}
+use Rattle.need_eval.specs.PartWay.{state_after, Does, AreAnswers}
+use Rattle.need_eval.specs.Pieces.{RunCause}
 use Rattle.need_eval.specs.Walking.{walking, left, IsFresh, GoesOn, StandsAt, Supplied, Advances, Supplies}
-use Rattle.need_eval.specs.Walk.{Answers, IsWalk}
+use Rattle.need_eval.specs.Walk.{Answers}
 use Rattle.need_eval.specs.Progress.{IsProgress, Evaluates}
 use Rattle.need_eval.proofs.Growth.{Grows, resume-grows}
-use Rattle.need_eval.proofs.Stopping.{Does-earlier, unwritten-reading, unwritten-run}
-use Rattle.need_eval.proofs.Asking.{resume-asks_no_more, stands-asks, stands-asks_no_more}
+use Rattle.need_eval.proofs.Stopping.{unwritten-reading, unwritten-run}
+use Rattle.need_eval.proofs.Asking.{stands-asks, stands-asks_no_more}
 use Rattle.need_eval.proofs.Outcomes.{list-answers, answers-more, are_answers-more, answers-split, told-among}
-use Rattle.need_eval.proofs.Walks.{begins, goes_on, is_supplied}
+use Rattle.need_eval.proofs.Walks.{begins, goes_on, is_supplied, walk-does, walk-asks_no_more}
 
 module _ (tells : Job → Type 0) (outcome : Job → Outcome) (budget : ℕ) (refs : List Ref) (first : Store) where
   -- the whole evaluation
@@ -66,30 +66,28 @@ module _ (tells : Job → Type 0) (outcome : Job → Outcome) (budget : ℕ) (re
     reached answer answers =
         ap (λ budget. values_of answer budget refs (start first)) (sym p.budgets) ∙ p.walk.same answer answers
 
-    from_start : Grows (start first) here
-    from_start = record { made = p.walk.writes; writes = refl; store = p.walk.put }
-
     left-grows : (answer : ℕ → Job → Option Outcome) → Grows here (state_after (left answer w here))
     left-grows answer = resume-grows answer w.budget w.frames.items w.level.done w.level.rest.items here
 
     whole-does : (answer : ℕ → Job → Option Outcome) (later : Store) (result : Result Values EvalFault) → Answers answer 0 p.walk.asked p.given → Does here (left answer w here) later result → Does (start first) (whole answer) later result
     whole-does answer later result answers does =
-        subst (λ (e : Ended (List ObjectName)). Does (start first) e later result) (sym (reached answer answers))
-        (Does-earlier (start first) here (left answer w here) later result from_start does)
+        subst (λ (budget : ℕ). Does (start first) (values_of answer budget refs (start first)) later result) p.budgets
+        (walk-does refs first p.given w now p.walk answer later result answers does)
 
     -- where the rest doesn't hang on further answers
     concludes : (later : Store) (result : Result Values EvalFault) → ((answer : ℕ → Job → Option Outcome) → Does here (left answer w here) later result) → Evaluates tells outcome budget refs first later result
     concludes later result does =
         let listed = list-answers p.walk.asked p.given p.walk.number in
         let same : (state_after (whole (by_list p.given))).asked ≡ p.walk.asked =
-          ap (λ e. (state_after e).asked) (reached (by_list p.given) listed)
-          ∙ resume-asks_no_more p.given w.budget w.frames.items w.level.done w.level.rest.items here (omega (arith, p.walk.number)) in
-        (λ told. whole-does (by_function outcome) later result (p.exact told) (does (by_function outcome)),
-        record {
-          given = p.given;
-          answers = subst (λ (jobs : List Job). AreAnswers tells outcome jobs p.given) (sym same) p.answers;
-          does = whole-does (by_list p.given) later result listed (does (by_list p.given));
-        })
+        ap (λ budget. (state_after (values_of (by_list p.given) budget refs (start first))).asked) (sym p.budgets)
+        ∙ walk-asks_no_more refs first p.given w now p.walk in (
+          λ told. whole-does (by_function outcome) later result (p.exact told) (does (by_function outcome)),
+          record {
+            given = p.given;
+            answers = subst (λ (jobs : List Job). AreAnswers tells outcome jobs p.given) (sym same) p.answers;
+            does = whole-does (by_list p.given) later result listed (does (by_list p.given));
+          },
+        )
 
     pub concludes-values : (after : Walker) (later : Store) (values : Values) → later ≡ now → Advances w after now (Ok (Over values)) → values.steps ≡ after.steps → Evaluates tells outcome budget refs first later (Ok values)
     concludes-values after later values same advances steps =
@@ -116,7 +114,7 @@ module _ (tells : Job → Type 0) (outcome : Job → Outcome) (budget : ℕ) (re
       answers-as_told told =
           let more = stands-asks (by_function outcome) w now q p.walk.writes p.walk.asked (outcome q.job) stands refl in
           let jobs : (state_after (whole (by_function outcome))).asked ≡ (p.walk.asked ++ q.job ∷ []) ++ more.others =
-            ap (λ e. (state_after e).asked) (reached (by_function outcome) (p.exact told)) ∙ more.list in
+          ap (λ e. (state_after e).asked) (reached (by_function outcome) (p.exact told)) ∙ more.list in
           ap (λ o. Some o) (sym (is_told (told-among tells p.walk.asked q.job more.others (subst (λ (jobs : List Job). AllByRecursion tells jobs) jobs told))))
 
       pub progress-is_supplied : (after : Walker) (later : Store) → Supplied w after q given now later → after.budget ≡ w.budget → Progress after later
@@ -133,15 +131,16 @@ module _ (tells : Job → Type 0) (outcome : Job → Outcome) (budget : ℕ) (re
       concludes-supplying after later fault supplies =
           let all = p.given ++ given ∷ [] in
           let number : length (p.walk.asked ++ q.job ∷ []) ≡ length all =
-            length-append p.walk.asked (q.job ∷ []) ∙ ap (λ n. n + 1) p.walk.number ∙ sym (length-append p.given (given ∷ [])) in
+          length-append p.walk.asked (q.job ∷ []) ∙ ap (λ n. n + 1) p.walk.number ∙ sym (length-append p.given (given ∷ [])) in
           let parts = answers-split (by_list all) 0 (length p.walk.asked) p.walk.asked p.given q.job given (omega arith) p.walk.number (list-answers (p.walk.asked ++ q.job ∷ []) all number) in
           let same : (state_after (whole (by_list all))).asked ≡ p.walk.asked ++ q.job ∷ [] =
-            ap (λ e. (state_after e).asked) (reached (by_list all) parts.0)
-            ∙ stands-asks_no_more all w now q p.walk.writes p.walk.asked given stands parts.1 (omega (arith, number)) in
-          (λ told. whole-does (by_function outcome) later (Err fault) (p.exact told) (supplies (by_function outcome) p.walk.writes p.walk.asked (answers-as_told told)),
-          record {
-            given = all;
-            answers = subst (λ (jobs : List Job). AreAnswers tells outcome jobs all) (sym same)
-                (are_answers-more tells outcome p.walk.asked p.given q.job given p.answers fits is_told);
-            does = whole-does (by_list all) later (Err fault) parts.0 (supplies (by_list all) p.walk.writes p.walk.asked parts.1);
-          })
+          ap (λ e. (state_after e).asked) (reached (by_list all) parts.0)
+          ∙ stands-asks_no_more all w now q p.walk.writes p.walk.asked given stands parts.1 (omega (arith, number)) in (
+            λ told. whole-does (by_function outcome) later (Err fault) (p.exact told) (supplies (by_function outcome) p.walk.writes p.walk.asked (answers-as_told told)),
+            record {
+              given = all;
+              answers = subst (λ (jobs : List Job). AreAnswers tells outcome jobs all) (sym same)
+                  (are_answers-more tells outcome p.walk.asked p.given q.job given p.answers fits is_told);
+              does = whole-does (by_list all) later (Err fault) parts.0 (supplies (by_list all) p.walk.writes p.walk.asked parts.1);
+            },
+          )

@@ -1,5 +1,5 @@
 -- A whole evaluation goes round: to a job, through its run, and on with its outcome.
-use Rattle.std.proofs.Common.{◌≡◌, ◌≤◌, ℕ, List, [], Result, Ok, Err, refl, sym, ap, subst, ◌∙◌, arith}
+use Rattle.std.proofs.Common.{◌≡◌, ◌≤◌, ℕ, List, [], Ok, Err, refl, sym, subst, arith}
 use Rattle.std.specs.Prelude.{IfSome}
 use Rattle.thunk_codec.specs.declared.reference.Ref.{Ref}
 use Rattle.thunk_codec.specs.declared.job.Job.{Job}
@@ -15,8 +15,8 @@ use Rattle.need_eval.specs.declared.walker.Walker.{Walker}
 use Rattle.need_eval.specs.declared.walker.Walked.{Walked}
 use Rattle.need_eval.specs.declared.walker.Walked.TheVariants.{Ended, Blocked}
 use Rattle.need_eval.specs.Eval.{start}
-use Rattle.need_eval.specs.Evaluation.{values_of, by_list}
-use Rattle.need_eval.specs.PartWay.{Stops, AreAnswers, EvalCause}
+use Rattle.need_eval.specs.Evaluation.{by_list}
+use Rattle.need_eval.specs.PartWay.{AreAnswers, EvalCause}
 use Rattle.need_eval.specs.Pieces.{KeeperCause, RunCause}
 use Rattle.need_eval.specs.Walking.{Advances, Supplies, StandsAt, Waits, GoesOn, HasSteps, blocked_at}
 use Rattle.need_eval.specs.Progress.{IsProgress, Evaluates}
@@ -52,13 +52,14 @@ cause-of_run retries kept_before kept_after before mid after faults.Memory first
 module _ (tells : Job → Type 0) (outcome : Job → Outcome) (budget : ℕ) (refs : List Ref) (first : Store) where
   -- memory was refused before the beginning
   pub round-unbegun : Evaluates tells outcome budget refs first first (Err faults.Memory)
-  round-unbegun =
-      (λ told. part_way-unwritten (start first) _ first (values_of-grows _ budget refs (start first)) refl,
-      record {
-        given = [];
-        answers = subst (λ (jobs : List Job). AreAnswers tells outcome jobs []) (sym (values_of-asks_no_more [] budget refs (start first) (omega arith))) tt;
-        does = part_way-unwritten (start first) _ first (values_of-grows (by_list []) budget refs (start first)) refl;
-      })
+  round-unbegun = (
+    λ told. part_way-unwritten (start first) _ first (values_of-grows _ budget refs (start first)) refl,
+    record {
+      given = [];
+      answers = subst (λ (jobs : List Job). AreAnswers tells outcome jobs []) (sym (values_of-asks_no_more [] budget refs (start first) (omega arith))) tt;
+      does = part_way-unwritten (start first) _ first (values_of-grows (by_list []) budget refs (start first)) refl;
+    },
+  )
 
   module _ (w after : Walker) (now later : Store) (p : IsProgress tells outcome budget refs first w now) where
     -- the values are there

@@ -25,7 +25,7 @@ part_way-earlier s t e now first h = record {
   kept = h.kept ∙ ap (λ store. written store h.front) first.store ∙ sym (written-append s.store first.made h.front);
 }
 
-Stops-earlier : {A : Type 0} (s t : State) (e : Ended A) (now : Store) (fault : EvalFault) → Grows s t → Stops t e now fault → Stops s e now fault
+pub Stops-earlier : {A : Type 0} (s t : State) (e : Ended A) (now : Store) (fault : EvalFault) → Grows s t → Stops t e now fault → Stops s e now fault
 Stops-earlier s t e now (faults.Refused refusal) first h = h
 Stops-earlier s t e now (faults.Clash name found fresh) first h = h
 Stops-earlier s t e now faults.StoreFailed first h = part_way-earlier s t e now first h

@@ -4,6 +4,8 @@ pub mod PartWay
 pub mod Pieces
 pub mod Machine
 pub mod Walking
+pub mod Turning
+pub mod Putting
 pub mod Walk
 pub mod Evaluating
 pub mod Progress

@@ -1,12 +1,16 @@
 -- What the pieces of an evaluation do, by their answers.
-use Rattle.std.specs.Prelude.{◌≡◌, ℕ, suc, Result, Ok, Err}
+use Rattle.std.specs.Prelude.{◌≡◌, ℕ, suc, length, nat_lt, Result, Ok, Err}
 use Rattle.object_name.specs.Causes.{Rose, RoseBy}
+use Rattle.object_name.specs.Name.{ObjectName}
+use Rattle.thunk_codec.specs.Thunk.{Parts}
 use Rattle.blob_store.specs.Store.{Store}
 use Rattle.blob_store.specs.declared.storing.StoreFault.{StoreFault}
 use Rattle.blob_store.specs.declared.storing.StoreFault.TheVariants as stores
+use Rattle.need_eval.specs.declared.fault.Refusal.TheVariants.{NoOutput}
 use Rattle.need_eval.specs.declared.fault.EvalFault.{EvalFault}
 use Rattle.need_eval.specs.declared.fault.EvalFault.TheVariants as faults
-use Rattle.need_eval.specs.Eval.{State, Refused, Ended, Got}
+use Rattle.need_eval.specs.Eval.{State, Refused, Ended, Got, Eval, ◌>>=◌, ◌>>◌, give, check}
+use Rattle.need_eval.specs.Evaluation.{count}
 use Rattle.need_eval.specs.PartWay.{StopsWith, Stops, Gives, HaveOneName}
 
 -- an evaluation that writes nothing stops so, or the keeper failed or memory was refused on the way
@@ -60,3 +64,10 @@ fault_of_store stores.Memory = faults.Memory
 -- the state after one step more
 abbrev pub stepped : State → State
 stepped s = record s { steps = suc s.steps }
+
+-- the entry into a thunk that was read
+abbrev pub entry : ℕ → ObjectName → ℕ → Parts → Eval Parts
+entry budget name index t = do
+  check (nat_lt index (length t.outputs)) (Refused (NoOutput name index))
+  count budget name
+  give t

@@ -1,13 +1,20 @@
 //! What an evaluation reads.
 
-ghost use Rattle.std.specs.Prelude.{◌≡◌, ◌≤◌, IfOk, IfErr};
-ghost use Rattle.need_eval.specs.Eval.{State};
+ghost use Rattle.std.specs.Prelude.{◌≡◌, ◌≤◌, ℕ, length, Some, IfOk, IfErr, slice_get};
+ghost use Rattle.object_name.specs.Name.{max_size, name_of};
+ghost use Rattle.blob_store.specs.Store.{Store};
+ghost use Rattle.reduction_cache.specs.Hit.{hit_of};
+ghost use Rattle.need_eval.specs.declared.fault.Refusal.TheVariants.{NoOutput};
+ghost use Rattle.need_eval.specs.Eval.{State, Ended, Refused, need};
 ghost use Rattle.need_eval.specs.Evaluation.{object, thunk_at};
-ghost use Rattle.need_eval.specs.Pieces.{Reads, KeeperCause};
+ghost use Rattle.need_eval.specs.Pieces.{Reads, StopsReading, KeeperCause};
+ghost use Rattle.object_name.specs.Name.{ObjectName};
+ghost use Rattle.std.specs.Prelude.{List};
 
 use crate::fault::{EvalFault, Refusal};
 use blob_store::{Keeper, fetch};
-use object_name::{Bytes, Name, Trouble};
+use object_name::{Bytes, Many, Name, Trouble, name_of};
+use reduction_cache::hit;
 use std::alloc::Global;
 use thunk_codec::{DecodeFault, Thunk, decode};
 
@@ -48,5 +55,40 @@ pub fn thunk_at<K: Keeper>(
         Ok(thunk) => Ok(thunk),
         Err(DecodeFault::BadThunk) => Err(EvalFault::Refused(Refusal::BadThunk(*name))),
         Err(DecodeFault::Memory) => Err(EvalFault::Memory),
+    }
+}
+
+/// A wanted one of some outputs.
+pub fn output_at(name: &Name, index: u32, outputs: &[Name]) -> Result<Name, EvalFault>
+    ensures found { IfOk result (λ output. slice_get outputs.now index ≡ Some output) }
+    ensures reads { (s : State) → Reads (λ output. output) (need (slice_get outputs.now index) (Refused (NoOutput name.now index)) s) s result }
+    ensures cause { (retries before after : ℕ) → IfErr result (KeeperCause retries before after) }
+{
+    match outputs.get(index as usize) {
+        Some(output) => Ok(*output),
+        None => Err(EvalFault::Refused(Refusal::NoOutput { name: *name, index })),
+    }
+}
+
+/// The outputs of a resolved thunk of this text that a note has, where there are so many and all are held.
+pub fn noted<K: Keeper>(
+    alloc: Global,
+    keeper: &mut K,
+    text: &[u8],
+    outputs: u32,
+    retries: u32,
+) -> Result<Option<Many<Name>>, EvalFault>
+    requires { length text.now ≤ max_size }
+    ensures found { K.tells → IfOk result (λ found. found ≡ hit_of (K.store keeper.old) (name_of text.now) outputs) }
+    ensures fault { IfErr result (λ fault. (e : Ended (List ObjectName)) (store : Store) → StopsReading e store fault) }
+    ensures same { K.tells → K.store keeper.new ≡ K.store keeper.old }
+    ensures later { K.faults keeper.old ≤ K.faults keeper.new }
+    ensures cause { IfErr result (KeeperCause retries (K.faults keeper.old) (K.faults keeper.new)) }
+{
+    let resolved = name_of(text).unwrap();
+    match hit(alloc, keeper, &resolved, outputs, retries) {
+        Ok(found) => Ok(found),
+        Err(Trouble::Failed) => Err(EvalFault::StoreFailed),
+        Err(Trouble::Memory) => Err(EvalFault::Memory),
     }
 }

@@ -11,6 +11,7 @@ use blob_store::Keeper;
 use object_name::{Many, Name};
 use std::alloc::{AllocError, Global};
 use std::collections::{BTreeMap, VecDeque};
+use std::mem::replace;
 use thunk_codec::{Outcome, Ref};
 
 /// An evaluation that stands somewhere inside. It owns neither the store nor what runs jobs: whoever has them calls `advance`
@@ -59,8 +60,19 @@ impl Walker {
         ensures retries { IfOk result (λ w. w.retries ≡ retries) }
         ensures walking { IfOk result (λ w. w.standing ≡ Standing.Walking) }
     {
-        // A stub: want of memory.
-        Err(AllocError)
+        let level = Level {
+            done: Many::new(alloc),
+            rest: VecDeque::from_vec(refs.0),
+        };
+        Ok(Walker {
+            frames: VecDeque::new(alloc),
+            level,
+            reduced: BTreeMap::new(alloc),
+            steps: 0,
+            budget,
+            retries,
+            standing: Standing::Walking,
+        })
     }
 
     /// Goes on up to the end, or to a job whose outcome isn't there. Nothing is written. After a fault it is over.
@@ -77,9 +89,12 @@ impl Walker {
         ensures setup { (self.new.budget ≡ self.old.budget) × (self.new.retries ≡ self.old.retries) }
         ensures work { OnOk result (work_of self.new ≤ work_of self.old) }
     {
-        // A stub: want of memory.
         self.standing = Standing::Ended;
-        Err(EvalFault::Memory)
+        'turns: loop {
+            if let Some(walked) = self.turn(alloc, keeper)? {
+                return Ok(walked);
+            }
+        }
     }
 
     /// The job whose outcome is waited for, and the text of its thunk.
@@ -112,9 +127,13 @@ impl Walker {
         ensures setup { (self.new.budget ≡ self.old.budget) × (self.new.retries ≡ self.old.retries) }
         ensures work { OnOk result (work_of self.new < work_of self.old) }
     {
-        // A stub: want of memory.
-        self.standing = Standing::Ended;
-        Err(EvalFault::Memory)
+        let standing = replace(&mut self.standing, Standing::Ended);
+        let Standing::Blocked(prepared) = standing else {
+            return Err(EvalFault::Memory);
+        };
+        self.finish(alloc, keeper, &prepared, &outcome)?;
+        self.standing = Standing::Walking;
+        Ok(())
     }
 
     /// Whether it has come to its end, or to a fault.

@@ -1,5 +1,5 @@
 -- Lines that are appended one after another are the text.
-use Rattle.std.proofs.Common.{◌≡◌, List, ℕ, [], ◌++◌, append_assoc, sym, ap, ◌∙◌}
+use Rattle.std.proofs.Common.{◌≡◌, List, ℕ, [], ◌++◌, append_assoc, ap, ◌∙◌}
 use Rattle.std.specs.List.{flat_map}
 use Rattle.thunk_codec.specs.Thunk.{Parts, text_of, head_line, end_line, function_line, arg_line, env_line, input_line, output_line}
 

@@ -10,7 +10,7 @@ use Rattle.thunk_codec.specs.declared.reference.Ref.{Ref}
 use Rattle.thunk_codec.specs.declared.reference.Ref.TheVariants.{Value, Out}
 use Rattle.thunk_codec.specs.Path.{is_path}
 use Rattle.thunk_codec.specs.Reference.{IsRef, ref_text}
-use Rattle.thunk_codec.specs.Thunk.{Parts, IsThunk, text_of, head_line, end_line, line, counted, function_line, arg_line, env_line, input_line, output_line, rises}
+use Rattle.thunk_codec.specs.Thunk.{Parts, IsThunk, text_of, head_line, end_line, counted, function_line, arg_line, env_line, input_line, output_line, rises}
 use Rattle.thunk_codec.specs.Resolved.{refs_of, with_values, resolved_by, AreNames, HaveValueKind}
 
 with_one-more : (inputs : List (List ℕ × Ref)) (values : List ObjectName) (i : ℕ) (d : List ℕ × Ref) (e : ObjectName) → i < length inputs → i < length values
@@ -81,8 +81,15 @@ text_size t = simp length-append (omega arith)
 pub resolved_size-less : (t : Parts) (value : ObjectName) (values : List ObjectName) → IsThunk t → IsName value → AreNames values
     → length (text_of (resolved_by t (value ∷ values))) ≤ length (text_of t)
 resolved_size-less t value values rules name names =
-    omega (arith, text_size t, text_size (resolved_by t (value ∷ values)), length-function_line t.function, length-function_line (Value value),
-    shortest value t.function name rules.function, with_values-size t.inputs values rules.input_refs names)
+    omega (
+      arith,
+      text_size t,
+      text_size (resolved_by t (value ∷ values)),
+      length-function_line t.function,
+      length-function_line (Value value),
+      shortest value t.function name rules.function,
+      with_values-size t.inputs values rules.input_refs names,
+    )
 
 -- a thunk with values in place of REFs is a thunk
 pub resolved_is_thunk : (t : Parts) (values : List ObjectName) → IsThunk t → AreNames values → HaveValueKind values → IsThunk (resolved_by t values)

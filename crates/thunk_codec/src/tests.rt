@@ -141,3 +141,36 @@ fn references_are_spelled_again(rt: HostRuntime) -> Result<(), Fail> {
     }
     Ok(())
 }
+
+/// A thunk without arguments, environment and inputs.
+fn make_plain(alloc: Global, function: Ref, outputs: Many<Path>) -> Result<Thunk, MakeFault> {
+    let args = Many::new(alloc);
+    let envs = Many::new(alloc);
+    let inputs = Many::new(alloc);
+    Thunk::make(alloc, function, args, envs, inputs, outputs)
+}
+
+fn one_path(alloc: Global, text: &[u8]) -> Result<Many<Path>, Fail> {
+    let path = Path::read(alloc, text)?.ok_or("there is a path")?;
+    let mut paths = Many::new(alloc);
+    paths.push(path)?;
+    Ok(paths)
+}
+
+#[test]
+fn a_thunk_is_made_of_parts(rt: HostRuntime) -> Result<(), Fail> {
+    let alloc = rt.alloc();
+    let function = Ref::read(FUNCTION).ok_or("there is a reference")?;
+    let thunk = make_plain(alloc, function, one_path(alloc, b"out")?)?;
+    let expected = text_with(alloc, &[b"o 3:out\nend\n"])?;
+    assert!(rt; encode(alloc, &thunk)? == expected);
+    Ok(())
+}
+
+#[test]
+fn parts_that_break_a_rule_are_refused(rt: HostRuntime) -> Result<(), Fail> {
+    let function = Ref::read(FUNCTION).ok_or("there is a reference")?;
+    let made = make_plain(rt.alloc(), function, Many::new(rt.alloc()));
+    assert!(rt; matches!(made, Err(MakeFault::NotThunk)));
+    Ok(())
+}

@@ -1,4 +1,4 @@
-use Rattle.std.proofs.Common.{◌≡◌, ◌≤◌, arith, ◌∙◌}
+use Rattle.std.proofs.Common.{◌≤◌, arith, ◌∙◌}
 use Rattle.std.proofs.lemmas.Result.{err_from_is_err_and}
 use Rattle.need_eval.proofs.Progress.{progress-begins, concludes-reading, concludes-run}
 use Rattle.need_eval.proofs.Rounds.{cause-of_keeper, cause-of_run, round-unbegun, round-ends, round-waits, round-supplied, round-stops}

@@ -5,7 +5,7 @@ use Rattle.thunk_codec.specs.Thunk.{input_line}
 use Rattle.thunk_codec.proofs.encoding.write_inputs.Given as goal
 
 abbrev pub invariant-inputs : goal.invariant-inputs
-invariant-inputs l = 
+invariant-inputs l =
     record {
       lines : l.out ≡ l.initial.out ++ flat_map input_line (take l.path-index l.inputs);
       paths : list_all is_path (map (λ input. input.0) (take l.path-index l.inputs)) ≡ true;

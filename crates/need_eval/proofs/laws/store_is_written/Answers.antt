@@ -1,0 +1,5 @@
+use Rattle.need_eval.proofs.Growth as growth
+use Rattle.need_eval.proofs.laws.store_is_written.Goals as goal
+
+pub returns : goal.returns
+returns c = growth.store_is_written

@@ -1,0 +1,5 @@
+use Rattle.need_eval.proofs.Walks.{begins}
+use Rattle.need_eval.proofs.laws.walks_begin.Goals as goal
+
+pub returns : goal.returns
+returns c = begins

@@ -1,0 +1,5 @@
+use Rattle.need_eval.proofs.Walks.{goes_on}
+use Rattle.need_eval.proofs.laws.walks_go_on.Goals as goal
+
+pub returns : goal.returns
+returns c = goes_on

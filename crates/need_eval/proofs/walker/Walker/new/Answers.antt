@@ -1,0 +1,8 @@
+use Rattle.std.proofs.Common.{rules, subst, sym, refl, ◌∙◌}
+use Rattle.std.specs.Prelude.{IsTrue}
+use Rattle.need_eval.specs.Machine.{is_sound}
+use Rattle.need_eval.proofs.Sound.{sound-fresh}
+use Rattle.need_eval.proofs.walker.Walker.new.Goals as goal
+
+pub invariant_of-result-clause-sound : goal.invariant_of-result-clause-sound
+invariant_of-result-clause-sound c = rw (c.new-2.ensures.items, c.new.ensures, c.from_vec.ensures.items) (sound-fresh c.refs.inside.0.items (rw (← c.refs.view_is) at c.requires))

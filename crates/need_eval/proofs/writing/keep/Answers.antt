@@ -1,0 +1,14 @@
+use Rattle.need_eval.proofs.StoreOne.{kept_puts, kept_stops, kept_cause}
+use Rattle.need_eval.proofs.writing.keep.Goals as goal
+
+pub returns-in-Ok-clause-puts : goal.returns-in-Ok-clause-puts
+returns-in-Ok-clause-puts g c = λ told.
+    kept_puts c.args.bytes.now (g.K.Keeper.store c.args.keeper.now) (g.K.Keeper.store c.store.new.keeper) c.in-Ok.name c.in-Ok.ensures.named (c.in-Ok.ensures.stores told)
+
+pub returns-in-Err-clause-puts : goal.returns-in-Err-clause-puts
+returns-in-Err-clause-puts g c = λ told.
+    rw c.store_fault.ensures (λ s here. kept_stops c.args.bytes.now s (g.K.Keeper.store c.args.keeper.now) (g.K.Keeper.store c.store.new.keeper) c.in-Err.fault here (c.in-Err.ensures.stores told) c.in-Err.ensures.clash)
+
+pub returns-in-Err-clause-cause : goal.returns-in-Err-clause-cause
+returns-in-Err-clause-cause g c =
+    rw c.store_fault.ensures (kept_cause c.args.bytes.now c.args.retries (g.K.Keeper.faults c.args.keeper.now) (g.K.Keeper.faults c.store.new.keeper) c.in-Err.fault c.in-Err.ensures.cause c.in-Err.ensures.clash)

@@ -1,0 +1,6 @@
+use Rattle.need_eval.proofs.Outputs.{HasPutSome}
+use Rattle.need_eval.proofs.writing.keep_all.Given as goal
+
+abbrev pub invariant-outputs : goal.invariant-outputs
+invariant-outputs g l =
+    HasPutSome g.K.Keeper.tells g.K.Keeper.store g.K.Keeper.faults l.outputs l.initial.keeper l.keeper l.output-index l.names
