@@ -54,7 +54,7 @@ fn join(alloc: Global, job: &Job) -> Result<Bytes, AllocError> {
 }
 
 /// As many texts as there are outputs, the first this one and each later one longer by a `+`.
-fn lengthened(alloc: Global, first: &Bytes, outputs: &[Path]) -> Result<Many<Bytes>, Trouble>
+fn lengthened(alloc: Global, first: &Bytes, outputs: &[Path]) -> Result<Many<Bytes>, AllocError>
     ensures { IfOk result (λ texts. length texts ≡ length outputs.now) }
 {
     let mut text = Bytes::from_slice(alloc, first.as_slice())?;

@@ -1,5 +1,5 @@
-use Rattle.std.proofs.Common.{◌≡◌, length, take}
+use Rattle.std.proofs.Common.{◌≡◌, length}
 use Rattle.need_eval.proofs.joining.lengthened.Given as goal
 
 abbrev pub invariant-outputs : goal.invariant-outputs
-invariant-outputs l = length l.texts ≡ length (take l.item-index l.outputs)
+invariant-outputs l = length l.texts ≡ l.index
