@@ -175,14 +175,14 @@ fn go_on(alloc: Global, walker: &mut Walker, keeper: &mut MemKeeper) -> Result<(
     Ok(())
 }
 
-/// Whether a walker waits at the job of the thunk of `f` with this input.
-fn waits_at(alloc: Global, walker: &Walker, input: Ref, bytes: &[u8]) -> Result<bool, Fail> {
-    let text = text_of(alloc, input)?;
+/// Whether a walker waits at the job of the thunk of `f` whose input is this value.
+fn waits_at(alloc: Global, walker: &Walker, value: &[u8]) -> Result<bool, Fail> {
+    let text = text_of(alloc, Ref::Value(name_of(value)?))?;
     match walker.blocked() {
         Some(prepared) => {
             let inputs = prepared.job.inputs.as_slice();
             let read = inputs.first().ok_or("an input")?;
-            Ok(prepared.text == text && read.1.as_slice() == bytes)
+            Ok(prepared.text == text && read.1.as_slice() == value)
         }
         None => Ok(false),
     }
@@ -214,6 +214,24 @@ fn supply(
     Ok(())
 }
 
+/// Goes on to the job of the thunk of `f` whose input is this value, and answers it with a text.
+fn answer(
+    alloc: Global,
+    walker: &mut Walker,
+    keeper: &mut MemKeeper,
+    value: &[u8],
+    text: &[u8],
+) -> Result<(), Fail>
+    requires { walker.old.standing ≡ Standing.Walking }
+    ensures { OnOk result (walker.new.standing ≡ Standing.Walking) }
+{
+    go_on(alloc, walker, keeper)?;
+    if !waits_at(alloc, walker, value)? {
+        return Err(Fail::from("another job"));
+    }
+    supply(alloc, walker, keeper, text)
+}
+
 /// The value that a walker ends with, and the steps.
 fn end(
     alloc: Global,
@@ -228,21 +246,28 @@ fn end(
     }
 }
 
+/// Answers the jobs of two thunks, and gives the second one's output and the steps, where it is over only then.
+fn walk_through(
+    alloc: Global,
+    walker: &mut Walker,
+    keeper: &mut MemKeeper,
+) -> Result<(Option<Name>, u32), Fail>
+    requires { walker.old.standing ≡ Standing.Walking }
+{
+    answer(alloc, walker, keeper, b"abc", b"ABC")?;
+    answer(alloc, walker, keeper, b"ABC", b"D")?;
+    if walker.is_ended() {
+        return Err(Fail::from("over too early"));
+    }
+    end(alloc, walker, keeper)
+}
+
 #[test]
 fn a_walker_waits_at_each_job(rt: HostRuntime) -> Result<(), Fail> {
     let alloc = rt.alloc();
     let (mut keeper, thunk) = two_thunks(alloc)?;
     let mut walker = walker_of(alloc, thunk)?;
-    go_on(alloc, &mut walker, &mut keeper)?;
-    let input = Ref::Value(name_of(b"abc")?);
-    assert!(rt; waits_at(alloc, &walker, input, b"abc")?);
-    supply(alloc, &mut walker, &mut keeper, b"ABC")?;
-    go_on(alloc, &mut walker, &mut keeper)?;
-    let input = Ref::Value(name_of(b"ABC")?);
-    assert!(rt; waits_at(alloc, &walker, input, b"ABC")?);
-    supply(alloc, &mut walker, &mut keeper, b"D")?;
-    assert!(rt; !walker.is_ended());
-    let found = end(alloc, &mut walker, &mut keeper)?;
+    let found = walk_through(alloc, &mut walker, &mut keeper)?;
     assert_eq!(rt; found, (Some(name_of(b"D")?), 2));
     assert!(rt; walker.is_ended());
     Ok(())
