@@ -1,13 +1,11 @@
 -- What the turns of a walker come to, one after another.
-use Rattle.std.proofs.Common.{◌≡◌, ◌≤◌, ℕ, List, Option, Some, None, Result, Ok, Err, true, refl, sym, ap, subst, ◌∙◌}
-use Rattle.thunk_codec.specs.declared.job.Job.{Job}
-use Rattle.thunk_codec.specs.declared.job.Outcome.{Outcome}
-use Rattle.blob_store.specs.Store.{Store, Write}
+use Rattle.std.proofs.Common.{◌≡◌, ◌≤◌, ℕ, Ok, true, sym, subst, ◌∙◌}
+use Rattle.blob_store.specs.Store.{Store}
 use Rattle.need_eval.specs.declared.fault.EvalFault.{EvalFault}
 use Rattle.need_eval.specs.declared.walker.Walker.{Walker}
 use Rattle.need_eval.specs.declared.walker.Walked.{Walked}
 use Rattle.need_eval.specs.declared.walker.Walked.TheVariants.{Ended, Blocked}
-use Rattle.need_eval.specs.Walking.{walking, left, is_over, work_of, GoesOn, Advances}
+use Rattle.need_eval.specs.Walking.{is_over, work_of, GoesOn, Advances}
 use Rattle.need_eval.specs.Pieces.{StopsReading}
 use Rattle.need_eval.specs.Turning.{StopsAt}
 

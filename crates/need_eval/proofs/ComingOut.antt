@@ -14,11 +14,10 @@ use Rattle.need_eval.specs.declared.fault.EvalFault.TheVariants as faults
 use Rattle.need_eval.specs.declared.frame.Frame.{Frame}
 use Rattle.need_eval.specs.declared.standing.Prepared.{Prepared}
 use Rattle.need_eval.specs.declared.walker.Walker.{Walker}
-use Rattle.need_eval.specs.Eval.{State, Refused, Ended, Got}
+use Rattle.need_eval.specs.Eval.{State, Ended, Got}
 use Rattle.need_eval.specs.Evaluation.{job_of, reduce}
 use Rattle.need_eval.specs.Machine.{resume}
 use Rattle.need_eval.specs.Pieces.{StopsReading}
-use Rattle.need_eval.specs.PartWay.{StopsWith}
 use Rattle.need_eval.specs.Walking.{walking, left, StandsAt}
 use Rattle.need_eval.specs.Turning.{IsInnermost, Leaves}
 use Rattle.need_eval.proofs.Turns.{marked, turn-end, turn-leave, turn-leave-stops, reduce-too-big, reduce-hit, reduce-job-stops, marked-reduced}

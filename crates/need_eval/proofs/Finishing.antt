@@ -1,5 +1,5 @@
 -- What is left of an evaluation after the outcome of a job.
-use Rattle.std.proofs.Common.{◌≡◌, ◌≤◌, ℕ, List, [], ◌∷◌, ◌++◌, length, drop, Option, Some, None, Result, Ok, Err, refl, sym, ap, subst, ◌∙◌, append-nil}
+use Rattle.std.proofs.Common.{◌≡◌, ℕ, List, [], ◌∷◌, ◌++◌, length, drop, Option, Some, refl, sym, ap, subst, ◌∙◌, append-nil}
 use Rattle.std.specs.Prelude.{if◌then◌else◌, IfSome}
 use Rattle.std.specs.Ordering.{eq_by_cmp}
 use Rattle.std.specs.BTreeMap.{get}
@@ -7,7 +7,7 @@ use Rattle.object_name.specs.Name.{ObjectName, name_cmp}
 use Rattle.thunk_codec.specs.declared.reference.Ref.TheVariants.{Out}
 use Rattle.thunk_codec.specs.declared.job.Job.{Job}
 use Rattle.thunk_codec.specs.declared.job.Outcome.{Outcome}
-use Rattle.thunk_codec.specs.Thunk.{Parts, text_of}
+use Rattle.thunk_codec.specs.Thunk.{Parts}
 use Rattle.blob_store.specs.Store.{Store, Write, written}
 use Rattle.need_eval.specs.declared.fault.EvalFault.{EvalFault}
 use Rattle.need_eval.specs.declared.fault.EvalFault.TheVariants as faults
@@ -23,8 +23,7 @@ use Rattle.need_eval.specs.PartWay.{state_after, IsPartWay, Stops}
 use Rattle.need_eval.specs.Putting.{Puts, after_writes}
 use Rattle.need_eval.specs.Walking.{walking, left, innermost, blocked_at, StandsAt, Supplied}
 use Rattle.need_eval.specs.Turning.{IsReady, Leaves}
-use Rattle.need_eval.proofs.Keeping.{Keeps}
-use Rattle.need_eval.proofs.Growth.{Grows, Grows-stay, resume-grows}
+use Rattle.need_eval.proofs.Growth.{Grows-stay, resume-grows}
 use Rattle.need_eval.proofs.Stopping.{part_way-unwritten, Stops-earlier}
 use Rattle.need_eval.proofs.Leaving.{Stops-on, turn-leave-faults}
 use Rattle.need_eval.proofs.Turns.{marked, asked_for, turn-leave, reduce-run, marked-reduced}

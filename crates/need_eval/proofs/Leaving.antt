@@ -1,5 +1,5 @@
 -- What was done up to a fault of a part, seen from the whole.
-use Rattle.std.proofs.Common.{◌≡◌, ℕ, List, [], ◌∷◌, ◌++◌, Option, refl, sym, ap, subst, ◌∙◌, append_assoc}
+use Rattle.std.proofs.Common.{ℕ, List, [], ◌∷◌, ◌++◌, Option, refl, sym, ap, subst, ◌∙◌, append_assoc}
 use Rattle.std.specs.Prelude.{slice_get}
 use Rattle.object_name.specs.Name.{ObjectName}
 use Rattle.thunk_codec.specs.declared.job.Job.{Job}
@@ -10,7 +10,7 @@ use Rattle.need_eval.specs.declared.fault.Refusal.TheVariants.{NoOutput}
 use Rattle.need_eval.specs.declared.fault.EvalFault.{EvalFault}
 use Rattle.need_eval.specs.declared.fault.EvalFault.TheVariants as faults
 use Rattle.need_eval.specs.declared.frame.Frame.{Frame}
-use Rattle.need_eval.specs.Eval.{State, Refused, Ended, Got, Stopped, Eval, go_on, ◌>>=◌, need}
+use Rattle.need_eval.specs.Eval.{State, Refused, Ended, Got, Stopped, Eval, go_on}
 use Rattle.need_eval.specs.Evaluation.{reduce, passed, value_of}
 use Rattle.need_eval.specs.Machine.{resume}
 use Rattle.need_eval.specs.PartWay.{state_after, IsPartWay, Stops}

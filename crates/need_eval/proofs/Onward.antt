@@ -1,6 +1,5 @@
 -- What is left of an evaluation after a turn of a walker.
-use Rattle.std.proofs.Common.{◌≡◌, ◌≤◌, ◌<◌, ℕ, suc, List, [], ◌∷◌, ◌++◌, length, drop, Bool, true, false, Option, Some, None, refl, sym, ap, subst, ◌∙◌}
-use Rattle.std.specs.Prelude.{nat_lt, slice_get}
+use Rattle.std.proofs.Common.{◌≡◌, ◌≤◌, ◌<◌, ℕ, suc, List, [], ◌∷◌, ◌++◌, drop, Option, Some, None, refl, sym, ap, subst, ◌∙◌}
 use Rattle.std.proofs.lemmas.Bool.{lt-ltb, le-ltb}
 use Rattle.std.specs.BTreeMap.{get}
 use Rattle.object_name.specs.declared.kind.Kind.TheVariants as kinds
@@ -16,8 +15,8 @@ use Rattle.need_eval.specs.declared.fault.Refusal.TheVariants.{NoOutput, Spent}
 use Rattle.need_eval.specs.declared.fault.EvalFault.{EvalFault}
 use Rattle.need_eval.specs.declared.frame.Frame.{Frame}
 use Rattle.need_eval.specs.declared.walker.Walker.{Walker}
-use Rattle.need_eval.specs.Eval.{State, Refused, Ended, Got, Stopped, go_on, need, check, step}
-use Rattle.need_eval.specs.Evaluation.{object, thunk_at, count, entered}
+use Rattle.need_eval.specs.Eval.{State, Refused, Ended, Got, go_on, need, check, step}
+use Rattle.need_eval.specs.Evaluation.{object, thunk_at, count}
 use Rattle.need_eval.specs.Machine.{resume}
 use Rattle.need_eval.specs.Pieces.{StopsReading, entry, stepped}
 use Rattle.need_eval.specs.PartWay.{StopsWith}

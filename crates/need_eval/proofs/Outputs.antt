@@ -1,5 +1,5 @@
 -- Storing the outputs of a thunk, one after another, and its note.
-use Rattle.std.proofs.Common.{◌≡◌, ◌≤◌, ◌<◌, ◌+◌, inl, inr, ℕ, suc, List, [], ◌∷◌, ◌++◌, length, drop, get_or, Err, refl, sym, ap, subst, ◌∙◌, add-one, append-nil}
+use Rattle.std.proofs.Common.{◌≡◌, ◌≤◌, ◌<◌, ◌+◌, inl, inr, ℕ, suc, List, [], ◌∷◌, ◌++◌, length, drop, get_or, refl, sym, ap, subst, ◌∙◌, add-one, append-nil}
 use Rattle.std.proofs.Math.Seq.{drop-cons, drop-length}
 use Rattle.object_name.specs.Name.{ObjectName, name_of}
 use Rattle.thunk_codec.specs.declared.job.Outcome.{Outcome}
@@ -14,7 +14,7 @@ use Rattle.need_eval.specs.Evaluation.{store_one, outputs_by, finished}
 use Rattle.need_eval.specs.PartWay.{state_after, IsPartWay, Stops}
 use Rattle.need_eval.specs.Putting.{Puts, after_writes}
 use Rattle.need_eval.proofs.Keeping.{Keeps, keeps-then}
-use Rattle.need_eval.proofs.Growth.{Grows, Grows-same, Grows-kept, Grows-write, stores-grow, finished-grows, written-append}
+use Rattle.need_eval.proofs.Growth.{Grows, Grows-same, Grows-kept, Grows-write, stores-grow, written-append}
 use Rattle.need_eval.proofs.Going.{IsLeft, IsLeft-start, IsLeft-more, IsLeft-end}
 use Rattle.need_eval.proofs.Leaving.{Stops-on}
 use Rattle.need_eval.proofs.Stopping.{Stops-earlier, part_way-unwritten}

@@ -1,5 +1,5 @@
 -- What pieces that only read do, one after another.
-use Rattle.std.proofs.Common.{◌≡◌, ℕ, List, Result, Ok, Err, refl, sym, ap, subst, ◌∙◌}
+use Rattle.std.proofs.Common.{◌≡◌, ℕ, List, sym, ap, subst, ◌∙◌}
 use Rattle.object_name.specs.Name.{ObjectName}
 use Rattle.thunk_codec.specs.declared.reference.Ref.{Ref}
 use Rattle.thunk_codec.specs.declared.job.Job.{Job}
@@ -13,7 +13,7 @@ use Rattle.need_eval.specs.declared.fault.EvalFault.TheVariants as faults
 use Rattle.need_eval.specs.Eval.{State, Stop, Refused, Ended, Got, Eval, go_on, ◌>>=◌, give, need, each}
 use Rattle.need_eval.specs.Evaluation.{object, thunk_at, input_object, job_of}
 use Rattle.need_eval.specs.PartWay.{StopsWith}
-use Rattle.need_eval.specs.Pieces.{StopsReading, Reads}
+use Rattle.need_eval.specs.Pieces.{StopsReading}
 
 -- what follows a stop doesn't matter
 pub StopsWith-go_on : {A B : Type 0} (f : A → Eval B) (why : Stop) (e : Ended A) (now : Store) → StopsWith why e now → StopsWith why (go_on e f) now

@@ -1,6 +1,6 @@
 -- Keeping what a walker has gathered in order.
-use Rattle.std.proofs.Common.{◌≡◌, ◌+◌, ℕ, suc, List, [], ◌∷◌, ◌++◌, length, map, Bool, true, false, IsTrue, refl, sym, ap, subst, ◌∙◌, arith, rules}
-use Rattle.std.specs.Prelude.{◌&&◌, ◌==◌}
+use Rattle.std.proofs.Common.{◌≡◌, ◌+◌, ℕ, List, [], ◌∷◌, ◌++◌, length, true, IsTrue, refl, ap, subst, ◌∙◌, arith, rules}
+use Rattle.std.specs.Prelude.{◌==◌}
 use Rattle.std.specs.List.{list_all, AllByRecursion}
 use Rattle.std.proofs.lemmas.Bool.{and_parts, and_from, false≢true}
 use Rattle.std.proofs.lemmas.List.{length_push}
@@ -10,7 +10,7 @@ use Rattle.object_name.specs.Name.{ObjectName}
 use Rattle.thunk_codec.specs.declared.reference.Ref.{Ref}
 use Rattle.thunk_codec.specs.declared.reference.Ref.TheVariants.{Value, Out}
 use Rattle.thunk_codec.specs.Reference.{IsRef}
-use Rattle.thunk_codec.specs.Thunk.{Parts, IsThunk}
+use Rattle.thunk_codec.specs.Thunk.{IsThunk}
 use Rattle.thunk_codec.specs.Resolved.{refs_of, HaveValueKind}
 use Rattle.need_eval.specs.declared.frame.Frame.{Frame}
 use Rattle.need_eval.specs.Machine.{is_value_kind, has_right_kind, is_gathered, fit_thunks, is_sound}

@@ -2,13 +2,11 @@
 use Rattle.std.proofs.Common.{◌≡◌, inl, inr, ℕ, List, [], ◌∷◌, ◌++◌, Option, Some, None, Err, refl, sym, ap, subst, ◌∙◌, append_assoc, append-nil}
 use Rattle.std.specs.Prelude.{is_some, option_and_then, bytes_eq, if◌then◌else◌}
 use Rattle.object_name.specs.Name.{ObjectName, name_of}
-use Rattle.blob_store.specs.Store.{Store, Write, written, after_write, other_held, own_write, storing}
-use Rattle.blob_store.specs.Keeping.{MayWrite, MayStore, Stores, Clashes, StoresAs, ShowsClash, StoreCause}
+use Rattle.blob_store.specs.Store.{Store, Write, after_write, other_held, own_write, storing}
+use Rattle.blob_store.specs.Keeping.{MayStore, Stores, Clashes, StoresAs, ShowsClash, StoreCause}
 use Rattle.blob_store.specs.declared.storing.StoreFault.{StoreFault}
 use Rattle.blob_store.specs.declared.storing.StoreFault.TheVariants as stores
-use Rattle.need_eval.specs.declared.fault.EvalFault.{EvalFault}
-use Rattle.need_eval.specs.declared.fault.EvalFault.TheVariants as faults
-use Rattle.need_eval.specs.Eval.{State, Clash, Ended, Got, Stopped, Eval, go_on, ◌>>=◌, give, each, make_write}
+use Rattle.need_eval.specs.Eval.{State, Clash, Got, Stopped, Eval, go_on, ◌>>=◌, give, each, make_write}
 use Rattle.need_eval.specs.Evaluation.{no_clash, store_one}
 use Rattle.need_eval.specs.PartWay.{state_after, IsPartWay, StopsWith, Stops}
 use Rattle.need_eval.specs.Pieces.{KeeperCause, fault_of_store}

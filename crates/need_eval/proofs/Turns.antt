@@ -2,11 +2,10 @@
 -- one thunk left.
 use Rattle.std.proofs.Common.{◌≡◌, ℕ, List, [], ◌∷◌, ◌++◌, length, Bool, true, false, Option, Some, None, refl, sym, ap, subst, ◌∙◌, append_assoc, append-nil}
 use Rattle.std.specs.Prelude.{slice_get, nat_le, ◌≤◌, ◌<◌, if◌then◌else◌}
-use Rattle.std.specs.Ordering.{eq_by_cmp}
 use Rattle.std.proofs.lemmas.Bool.{le-leb, lt-leb}
 use Rattle.object_name.specs.declared.kind.Kind.{Kind}
 use Rattle.object_name.specs.declared.kind.Kind.TheVariants as kinds
-use Rattle.object_name.specs.Name.{ObjectName, name_of, name_cmp}
+use Rattle.object_name.specs.Name.{ObjectName, name_of}
 use Rattle.thunk_codec.specs.declared.reference.Ref.{Ref}
 use Rattle.thunk_codec.specs.declared.reference.Ref.TheVariants.{Value, Out}
 use Rattle.thunk_codec.specs.declared.job.Job.{Job}
@@ -20,7 +19,7 @@ use Rattle.need_eval.specs.declared.fault.Refusal.TheVariants.{NoOutput, TooBig}
 use Rattle.need_eval.specs.declared.fault.EvalFault.{EvalFault}
 use Rattle.need_eval.specs.declared.frame.Frame.{Frame}
 use Rattle.need_eval.specs.Eval.{State, Refused, Stands, Ended, Got, Stopped, Eval, go_on, ◌>>=◌, give, check, need, note_asked, mark}
-use Rattle.need_eval.specs.Evaluation.{object, job_of, finished, ask, outputs_of, reduce, count, entered, outputs_at, output_of, passed, value_of, values_of}
+use Rattle.need_eval.specs.Evaluation.{object, job_of, finished, ask, outputs_of, reduce, count, entered, outputs_at, passed, value_of, values_of}
 use Rattle.need_eval.specs.Machine.{resume}
 use Rattle.need_eval.specs.PartWay.{state_after}
 use Rattle.need_eval.specs.Pieces.{StopsReading}

@@ -1,5 +1,5 @@
 -- Evaluation by need: the value of a reference, from a store, under a budget of steps.
-use Rattle.std.specs.Prelude.{ℕ, zero, suc, List, [], ◌∷◌, length, map, slice_get, nat_lt, nat_le, Option, Some, None}
+use Rattle.std.specs.Prelude.{ℕ, zero, suc, List, length, slice_get, nat_lt, nat_le, Option, Some, None}
 use Rattle.object_name.specs.declared.kind.Kind.{Kind}
 use Rattle.object_name.specs.declared.kind.Kind.TheVariants as kinds
 use Rattle.object_name.specs.Name.{ObjectName, name_of}

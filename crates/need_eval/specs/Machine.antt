@@ -1,6 +1,6 @@
 -- What is left of an evaluation that stands somewhere inside: the thunks that were entered, the innermost first, with what was
 -- gathered round each; and what is gathered now, values that are there and REFs whose values are still wanted.
-use Rattle.std.specs.Prelude.{ℕ, ◌+◌, ◌*◌, ◌-◌, List, [], ◌∷◌, ◌++◌, length, sum_by, slice_get, ◌==◌, ◌&&◌, Bool, true, false, Option}
+use Rattle.std.specs.Prelude.{ℕ, ◌+◌, ◌*◌, List, [], ◌∷◌, ◌++◌, length, sum_by, slice_get, ◌==◌, ◌&&◌, Bool, true, false, Option}
 use Rattle.std.specs.List.{list_all}
 use Rattle.object_name.specs.declared.kind.Kind.{Kind}
 use Rattle.object_name.specs.declared.kind.Kind.TheVariants as kinds
@@ -12,7 +12,7 @@ use Rattle.thunk_codec.specs.declared.job.Outcome.{Outcome}
 use Rattle.thunk_codec.specs.Resolved.{refs_of, resolved_by}
 use Rattle.need_eval.specs.declared.fault.Refusal.TheVariants.{NoOutput}
 use Rattle.need_eval.specs.declared.frame.Frame.{Frame}
-use Rattle.need_eval.specs.Eval.{Refused, Eval, ◌>>=◌, ◌>>◌, give, need}
+use Rattle.need_eval.specs.Eval.{Refused, Eval, ◌>>=◌, give, need}
 use Rattle.need_eval.specs.Evaluation.{reduce, passed, value_of, values_of}
 
 module _ (answer : ℕ → Job → Option Outcome) (budget : ℕ) where

@@ -9,7 +9,7 @@ use Rattle.blob_store.specs.declared.storing.StoreFault.TheVariants as stores
 use Rattle.need_eval.specs.declared.fault.Refusal.TheVariants.{NoOutput}
 use Rattle.need_eval.specs.declared.fault.EvalFault.{EvalFault}
 use Rattle.need_eval.specs.declared.fault.EvalFault.TheVariants as faults
-use Rattle.need_eval.specs.Eval.{State, Refused, Ended, Got, Eval, ◌>>=◌, ◌>>◌, give, check}
+use Rattle.need_eval.specs.Eval.{State, Refused, Ended, Got, Eval, ◌>>◌, give, check}
 use Rattle.need_eval.specs.Evaluation.{count}
 use Rattle.need_eval.specs.PartWay.{StopsWith, Stops, Gives, HaveOneName}
 

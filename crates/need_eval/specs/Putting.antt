@@ -1,5 +1,5 @@
 -- What pieces of an evaluation do that write.
-use Rattle.std.specs.Prelude.{◌≡◌, ℕ, List, ◌++◌, Result, Ok, Err}
+use Rattle.std.specs.Prelude.{◌≡◌, List, ◌++◌, Result, Ok, Err}
 use Rattle.blob_store.specs.Store.{Store, Write, written}
 use Rattle.need_eval.specs.declared.fault.EvalFault.{EvalFault}
 use Rattle.need_eval.specs.Eval.{State, Got, Eval}

@@ -1,5 +1,5 @@
 -- A walker and the store: what is left of the evaluation, and what the walker's calls do to it.
-use Rattle.std.specs.Prelude.{◌≡◌, ◌≤◌, ◌-◌, ℕ, List, [], ◌∷◌, ◌++◌, length, Bool, true, false, IsTrue, Option, Some, None, IsSome, Result, Ok, Err}
+use Rattle.std.specs.Prelude.{◌≡◌, ◌≤◌, ◌-◌, ℕ, List, [], ◌∷◌, ◌++◌, length, Bool, true, false, Option, Some, None, IsSome, Result, Ok, Err}
 use Rattle.std.specs.BTreeMap.{get}
 use Rattle.object_name.specs.Name.{ObjectName, name_of, name_cmp}
 use Rattle.thunk_codec.specs.declared.job.Job.{Job}
@@ -18,10 +18,10 @@ use Rattle.need_eval.specs.declared.standing.Standing.TheVariants as standings
 use Rattle.need_eval.specs.declared.walker.Walker.{Walker}
 use Rattle.need_eval.specs.declared.walker.Walked.{Walked}
 use Rattle.need_eval.specs.declared.walker.Walked.TheVariants.{Ended, Blocked}
-use Rattle.need_eval.specs.Eval.{State, Eval, Got, start}
-use Rattle.need_eval.specs.Evaluation.{job_of, values_of}
+use Rattle.need_eval.specs.Eval.{State, Eval, Got}
+use Rattle.need_eval.specs.Evaluation.{job_of}
 use Rattle.need_eval.specs.Machine.{resume, work_left}
-use Rattle.need_eval.specs.PartWay.{Stops, Gives}
+use Rattle.need_eval.specs.PartWay.{Stops}
 use Rattle.need_eval.specs.Pieces.{StopsReading}
 
 -- the state of the evaluation: what the walker and the store have of it, and the writes made and jobs asked for so far

@@ -1,5 +1,8 @@
 //! Evaluations in memory. No two texts of one name are known, so no test shows a clash.
 
+ghost use Rattle.std.specs.Prelude.{IfOk};
+ghost use Rattle.std.specs.List.{AllByRecursion};
+ghost use Rattle.thunk_codec.specs.Reference.{IsRef};
 ghost use Rattle.thunk_codec.specs.declared.job.Outcome.TheVariants.{Failed};
 
 use crate::{EvalFault, Refusal, Walked, Walker, evaluate};
@@ -85,7 +88,9 @@ fn of_abc(alloc: Global, outputs: &[u8]) -> Result<Bytes, Fail> {
 }
 
 /// The one reference that a text spells.
-fn wanted(alloc: Global, item: &[u8]) -> Result<Many<Ref>, Fail> {
+fn wanted(alloc: Global, item: &[u8]) -> Result<Many<Ref>, Fail>
+    ensures { IfOk result (λ refs. AllByRecursion IsRef refs) }
+{
     let mut refs = Many::new(alloc);
     refs.push(Ref::read(item).ok_or("no reference")?)?;
     Ok(refs)

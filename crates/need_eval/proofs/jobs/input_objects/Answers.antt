@@ -1,7 +1,7 @@
 use Rattle.std.proofs.Common.{sym, ◌∙◌, arith}
 use Rattle.std.proofs.lemmas.Result.{err_from_is_err_and}
 use Rattle.need_eval.specs.Evaluation.{input_object}
-use Rattle.need_eval.proofs.Inputs.{AreLeft-start, AreLeft-more, AreLeft-stop, AreLeft-end}
+use Rattle.need_eval.proofs.Inputs.{AreLeft-more, AreLeft-stop, AreLeft-end}
 use Rattle.need_eval.proofs.jobs.input_objects.Goals as goal
 
 pub inputs-preserved : goal.inputs-preserved

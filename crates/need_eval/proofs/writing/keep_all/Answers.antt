@@ -1,7 +1,7 @@
-use Rattle.std.proofs.Common.{arith, ◌+◌, ◌++◌, ◌∷◌, [], refl, ap, ◌∙◌, length}
+use Rattle.std.proofs.Common.{arith, ◌+◌, ◌++◌, ◌∷◌, [], ap, ◌∙◌, length}
 use Rattle.std.proofs.lemmas.List.{length_push}
 use Rattle.std.proofs.lemmas.Result.{err_from_is_err_and}
-use Rattle.need_eval.proofs.Outputs.{ArePut-start, ArePut-more, ArePut-stop, ArePut-front, ArePut-end}
+use Rattle.need_eval.proofs.Outputs.{ArePut-more, ArePut-stop, ArePut-front, ArePut-end}
 use Rattle.need_eval.proofs.writing.keep_all.Goals as goal
 
 pub returns-in_err-name-clause-puts : goal.returns-in_err-name-clause-puts

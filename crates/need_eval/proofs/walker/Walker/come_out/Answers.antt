@@ -1,4 +1,4 @@
-use Rattle.std.proofs.Common.{refl, sym, ◌∙◌, arith}
+use Rattle.std.proofs.Common.{sym, ◌∙◌, arith}
 use Rattle.std.proofs.lemmas.Result.{err_from_is_err_and}
 use Rattle.need_eval.specs.Walking.{walking, left}
 use Rattle.need_eval.proofs.ComingOut.{stops-too-big, comes-out}

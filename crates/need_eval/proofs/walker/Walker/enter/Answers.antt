@@ -1,4 +1,4 @@
-use Rattle.std.proofs.Common.{refl, sym, ap, ◌∙◌, ◌∷◌, drop, add-one}
+use Rattle.std.proofs.Common.{refl, ap, ◌∙◌, ◌∷◌, drop, add-one}
 use Rattle.std.proofs.lemmas.Result.{err_from_is_err_and}
 use Rattle.need_eval.specs.declared.frame.Frame.{Frame}
 use Rattle.need_eval.proofs.Sound.{sound-enter}

@@ -1,6 +1,3 @@
-use Rattle.std.proofs.Common.{rules, subst, sym, refl, ◌∙◌}
-use Rattle.std.specs.Prelude.{IsTrue}
-use Rattle.need_eval.specs.Machine.{is_sound}
 use Rattle.need_eval.proofs.Sound.{sound-fresh}
 use Rattle.need_eval.proofs.walker.Walker.new.Goals as goal
 

@@ -1,4 +1,4 @@
-use Rattle.std.proofs.Common.{refl, sym, ap, ◌∙◌}
+use Rattle.std.proofs.Common.{sym}
 use Rattle.std.proofs.lemmas.Result.{err_from_is_err_and}
 use Rattle.need_eval.proofs.Onward.{here, onward-no-output}
 use Rattle.need_eval.proofs.walker.Walker.take_output.Goals as goal
