@@ -17,7 +17,7 @@ use thunk_codec::{Ref, Thunk, encode, resolve};
 const MAX_JOB: u64 = 67_108_864;
 
 impl Walker {
-    ghost use Rattle.std.specs.Prelude.{◌≡◌, ◌≤◌, ◌<◌, [], ◌∷◌, drop, true, None, Some, Ok, length, IfOk, IfErr, IfSome, OnOk};
+    ghost use Rattle.std.specs.Prelude.{◌≡◌, ◌≤◌, ◌<◌, [], true, None, Some, Ok, length, IfOk, IfErr, IfSome, OnOk};
     ghost use Rattle.object_name.specs.Name.{ObjectName, name_of};
     ghost use Rattle.thunk_codec.specs.Thunk.{text_of};
     ghost use Rattle.thunk_codec.specs.Job.{resolved_size, max_job};
@@ -25,7 +25,7 @@ impl Walker {
     ghost use Rattle.reduction_cache.specs.Hit.{hit_of};
     ghost use Rattle.need_eval.specs.Pieces.{KeeperCause};
     ghost use Rattle.need_eval.specs.Walking.{work_of, is_over, HasSteps};
-    ghost use Rattle.need_eval.specs.Turning.{HasSetup, IsInnermost, Leaves, Turns, Turned, TurnStands};
+    ghost use Rattle.need_eval.specs.Turning.{HasSetup, IsInnermost, Leaves, Turned, TurnStands};
 
     /// The innermost thunk with the values that were gathered, and its name, where any was entered.
     fn resolved(&self, alloc: Global) -> Result<Option<(Name, Thunk)>, AllocError>
@@ -164,50 +164,5 @@ impl Walker {
         };
         let (name, thunk) = innermost;
         self.come_out(alloc, keeper, name, &thunk)
-    }
-    /// Takes the reference that is wanted next.
-    fn take<K: Keeper>(
-        &mut self,
-        alloc: Global,
-        keeper: &mut K,
-        next: &Ref,
-    ) -> Result<(), EvalFault>
-        requires { self.old.level.rest.items ≡ next.now ∷ drop 1 self.old.level.rest.items }
-        ensures turns { K.tells → Turns self.old self.new (K.store keeper.old) result }
-        ensures same { K.tells → K.store keeper.new ≡ K.store keeper.old }
-        ensures later { K.faults keeper.old ≤ K.faults keeper.new }
-        ensures cause { IfErr result (KeeperCause self.old.retries (K.faults keeper.old) (K.faults keeper.new)) }
-        ensures setup { HasSetup self.old self.new }
-        ensures standing { self.new.standing ≡ self.old.standing }
-        ensures work { OnOk result (work_of self.new < work_of self.old) }
-    {
-        match next {
-            Ref::Value(name) => self.take_value(alloc, keeper, *name),
-            Ref::Out(name, index) => self.take_output(alloc, keeper, *name, *index),
-        }
-    }
-
-    /// One turn.
-    pub(crate) fn turn<K: Keeper>(
-        &mut self,
-        alloc: Global,
-        keeper: &mut K,
-    ) -> Result<Option<Walked>, EvalFault>
-        requires { is_over self.old.standing ≡ true }
-        ensures turns { K.tells → Turned self.old self.new (K.store keeper.old) result }
-        ensures steps { IfOk result (λ turn. IfSome turn (λ walked. HasSteps self.new walked)) }
-        ensures same { K.tells → K.store keeper.new ≡ K.store keeper.old }
-        ensures later { K.faults keeper.old ≤ K.faults keeper.new }
-        ensures cause { IfErr result (KeeperCause self.old.retries (K.faults keeper.old) (K.faults keeper.new)) }
-        ensures setup { HasSetup self.old self.new }
-        ensures stands { TurnStands self.new.standing result }
-        ensures work { OnOk result (work_of self.new ≤ work_of self.old) }
-        ensures less { IfOk result (λ turn. turn ≡ None → work_of self.new < work_of self.old) }
-    {
-        let Some(next) = self.level.next() else {
-            return self.turn_out(alloc, keeper);
-        };
-        self.take(alloc, keeper, &next)?;
-        Ok(None)
     }
 }

@@ -62,7 +62,7 @@ impl Walker {
     }
 
     /// Writes the outputs that a job's outcome has, and a note, and leaves the innermost thunk with them. A walker that stands at
-    /// the job is ready, and its thunk has a note's name: no other answers that it wants memory without wanting any.
+    /// the job is ready, and its thunk has a name for a note. Any other writes nothing, and answers as where memory is wanted.
     pub(crate) fn finish<K: Keeper>(
         &mut self,
         alloc: Global,

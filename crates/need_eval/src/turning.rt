@@ -1,27 +1,27 @@
-//! The turns of a walker that gather values and enter thunks.
+//! The turns of a walker, and those that gather values and enter thunks.
 
 use crate::fault::{EvalFault, Refusal};
 use crate::frame::{Frame, Level};
 use crate::reading::{object, output_at, thunk_at};
-use crate::walker::Walker;
+use crate::walker::{Walked, Walker};
 use blob_store::Keeper;
 use object_name::{Kind, Name};
 use std::alloc::Global;
 use std::mem::replace;
-use thunk_codec::Thunk;
+use thunk_codec::{Ref, Thunk};
 
 impl Walker {
-    ghost use Rattle.std.specs.Prelude.{◌≡◌, ◌≤◌, ◌<◌, ◌∷◌, ℕ, drop, None, IfErr, OnOk};
+    ghost use Rattle.std.specs.Prelude.{◌≡◌, ◌≤◌, ◌<◌, ◌∷◌, ℕ, drop, true, None, IfOk, IfErr, IfSome, OnOk};
     ghost use Rattle.object_name.specs.declared.kind.Kind.TheVariants as kinds;
     ghost use Rattle.thunk_codec.specs.declared.reference.Ref.TheVariants.{Value, Out};
     ghost use Rattle.blob_store.specs.Store.{Store};
     ghost use Rattle.need_eval.specs.Eval.{State};
     ghost use Rattle.need_eval.specs.Pieces.{Reads, KeeperCause, entry, stepped};
-    ghost use Rattle.need_eval.specs.Walking.{reduced_at, work_of};
-    ghost use Rattle.need_eval.specs.Turning.{Turns, IsOutput, HasSetup};
+    ghost use Rattle.need_eval.specs.Walking.{reduced_at, work_of, is_over, HasSteps};
+    ghost use Rattle.need_eval.specs.Turning.{Turns, Turned, TurnStands, IsOutput, HasSetup};
 
     /// Takes a value that is wanted next.
-    pub(crate) fn take_value<K: Keeper>(
+    fn take_value<K: Keeper>(
         &mut self,
         alloc: Global,
         keeper: &mut K,
@@ -135,7 +135,7 @@ impl Walker {
     }
 
     /// Goes on with an output that is wanted next.
-    pub(crate) fn take_output<K: Keeper>(
+    fn take_output<K: Keeper>(
         &mut self,
         alloc: Global,
         keeper: &mut K,
@@ -158,5 +158,51 @@ impl Walker {
             }
             None => self.enter(alloc, keeper, name, index),
         }
+    }
+
+    /// Takes the reference that is wanted next.
+    fn take<K: Keeper>(
+        &mut self,
+        alloc: Global,
+        keeper: &mut K,
+        next: &Ref,
+    ) -> Result<(), EvalFault>
+        requires { self.old.level.rest.items ≡ next.now ∷ drop 1 self.old.level.rest.items }
+        ensures turns { K.tells → Turns self.old self.new (K.store keeper.old) result }
+        ensures same { K.tells → K.store keeper.new ≡ K.store keeper.old }
+        ensures later { K.faults keeper.old ≤ K.faults keeper.new }
+        ensures cause { IfErr result (KeeperCause self.old.retries (K.faults keeper.old) (K.faults keeper.new)) }
+        ensures setup { HasSetup self.old self.new }
+        ensures standing { self.new.standing ≡ self.old.standing }
+        ensures work { OnOk result (work_of self.new < work_of self.old) }
+    {
+        match next {
+            Ref::Value(name) => self.take_value(alloc, keeper, *name),
+            Ref::Out(name, index) => self.take_output(alloc, keeper, *name, *index),
+        }
+    }
+
+    /// One turn.
+    pub(crate) fn turn<K: Keeper>(
+        &mut self,
+        alloc: Global,
+        keeper: &mut K,
+    ) -> Result<Option<Walked>, EvalFault>
+        requires { is_over self.old.standing ≡ true }
+        ensures turns { K.tells → Turned self.old self.new (K.store keeper.old) result }
+        ensures steps { IfOk result (λ turn. IfSome turn (λ walked. HasSteps self.new walked)) }
+        ensures same { K.tells → K.store keeper.new ≡ K.store keeper.old }
+        ensures later { K.faults keeper.old ≤ K.faults keeper.new }
+        ensures cause { IfErr result (KeeperCause self.old.retries (K.faults keeper.old) (K.faults keeper.new)) }
+        ensures setup { HasSetup self.old self.new }
+        ensures stands { TurnStands self.new.standing result }
+        ensures work { OnOk result (work_of self.new ≤ work_of self.old) }
+        ensures less { IfOk result (λ turn. turn ≡ None → work_of self.new < work_of self.old) }
+    {
+        let Some(next) = self.level.next() else {
+            return self.turn_out(alloc, keeper);
+        };
+        self.take(alloc, keeper, &next)?;
+        Ok(None)
     }
 }
