@@ -1,30 +1,43 @@
 //! Thunks of `cat` over values: what forcing them writes, prints and answers.
 
 use crate::objects::{CAT, Item, Objects, note_text};
-use crate::running::{Said, assert_done, assert_says, force, run};
+use crate::running::{Said, assert_gives, assert_says, force, run};
+use blob_store::MemKeeper;
 use gg_cli::Status;
 use object_name::{Name, name_of};
+use std::alloc::Global;
+use std::process::Abort;
 use std::test::Fail;
+
+/// The object `abc` and the note on a thunk were written, and nothing else.
+fn assert_wrote_abc(rt: &impl Abort, keeper: &MemKeeper, thunk: Name) -> Result<(), Fail> {
+    let puts = keeper.puts();
+    assert_eq!(rt; puts.len(), 2);
+    assert_eq!(rt; puts.first(), Some(&name_of(b"abc")?));
+    assert_eq!(rt; puts.last(), Some(&thunk));
+    Ok(())
+}
 
 #[test]
 fn cat_of_three(rt: HostRuntime) -> Result<(), Fail> {
-    let alloc = rt.alloc();
-    let mut objects = Objects::new(alloc);
+    let mut objects = Objects::new(rt.alloc());
     let thunk = objects.cat_of_three()?;
     assert_eq!(rt; thunk.size(), 255);
-    let item = Item::Out(thunk, 0);
-    let abc = name_of(b"abc")?;
-    assert_eq!(rt;
-        Some(abc),
-        Name::read(b"VungWv48Bz-pBQUDeXa4iI7ADYaOWF3qctBD_YfIAFa000000003")
-    );
     let mut keeper = objects.keeper(&[])?;
     for _ in 0..2 {
-        let ran = force(alloc, &mut keeper, &[item])?;
-        assert_done(&rt, &ran, &[(abc, item)], alloc)?;
+        assert_gives(&rt, rt.alloc(), &mut keeper, thunk, b"abc")?;
         // The first run writes the object and the note, and the second nothing.
-        assert_eq!(rt; keeper.puts(), [abc, thunk].as_slice());
+        assert_wrote_abc(&rt, &keeper, thunk)?;
     }
+    Ok(())
+}
+
+#[test]
+fn the_name_of_abc(rt: HostRuntime) -> Result<(), Fail> {
+    assert_eq!(rt;
+        Some(name_of(b"abc")?),
+        Name::read(b"VungWv48Bz-pBQUDeXa4iI7ADYaOWF3qctBD_YfIAFa000000003")
+    );
     Ok(())
 }
 
@@ -46,40 +59,42 @@ fn the_note_of_three(rt: HostRuntime) -> Result<(), Fail> {
     Ok(())
 }
 
+/// A store of `cat_of_three` with its note and without the object, or with other bytes under its name.
+fn without_object(alloc: Global, damaged: bool) -> Result<(MemKeeper, Name), Fail> {
+    let mut objects = Objects::new(alloc);
+    let thunk = objects.cat_of_three()?;
+    let note = note_text(alloc, &thunk, &[name_of(b"abc")?])?;
+    objects.add_note(thunk, note.as_slice())?;
+    if damaged {
+        objects.add_under(name_of(b"abc")?, b"abd")?;
+    }
+    Ok((objects.keeper(&[])?, thunk))
+}
+
 #[test]
 fn note_without_object(rt: HostRuntime) -> Result<(), Fail> {
-    let alloc = rt.alloc();
-    let abc = name_of(b"abc")?;
-    // Without the object, and with other bytes under its name.
     for damaged in [false, true] {
-        let mut objects = Objects::new(alloc);
-        let thunk = objects.cat_of_three()?;
-        let note = note_text(alloc, &thunk, &[abc])?;
-        objects.add_note(thunk, note.as_slice())?;
-        if damaged {
-            objects.add_under(abc, b"abd")?;
-        }
-        let mut keeper = objects.keeper(&[])?;
-        let item = Item::Out(thunk, 0);
-        let ran = force(alloc, &mut keeper, &[item])?;
-        assert_done(&rt, &ran, &[(abc, item)], alloc)?;
-        assert_eq!(rt; keeper.puts(), [abc, thunk].as_slice());
+        let (mut keeper, thunk) = without_object(rt.alloc(), damaged)?;
+        assert_gives(&rt, rt.alloc(), &mut keeper, thunk, b"abc")?;
+        assert_wrote_abc(&rt, &keeper, thunk)?;
     }
     Ok(())
 }
 
-#[test]
-fn false_note_is_believed(rt: HostRuntime) -> Result<(), Fail> {
-    let alloc = rt.alloc();
+/// A store of `cat_of_three` with a note that it gives another object.
+fn with_false_note(alloc: Global) -> Result<(MemKeeper, Name), Fail> {
     let mut objects = Objects::new(alloc);
     let thunk = objects.cat_of_three()?;
     let other = objects.add(b"other")?;
     let note = note_text(alloc, &thunk, &[other])?;
     objects.add_note(thunk, note.as_slice())?;
-    let mut keeper = objects.keeper(&[])?;
-    let item = Item::Out(thunk, 0);
-    let ran = force(alloc, &mut keeper, &[item])?;
-    assert_done(&rt, &ran, &[(other, item)], alloc)?;
+    Ok((objects.keeper(&[])?, thunk))
+}
+
+#[test]
+fn false_note_is_believed(rt: HostRuntime) -> Result<(), Fail> {
+    let (mut keeper, thunk) = with_false_note(rt.alloc())?;
+    assert_gives(&rt, rt.alloc(), &mut keeper, thunk, b"other")?;
     assert!(rt; keeper.puts().is_empty());
     Ok(())
 }
@@ -173,37 +188,37 @@ fn thunk_texts_refused(rt: HostRuntime) -> Result<(), Fail> {
 
 #[test]
 fn job_too_big(rt: HostRuntime) -> Result<(), Fail> {
-    let alloc = rt.alloc();
-    let zeros = vec![in alloc; 0u8; 16_777_216]?;
-    let mut objects = Objects::new(alloc);
+    let zeros = vec![in rt.alloc(); 0u8; 16_777_216]?;
+    let mut objects = Objects::new(rt.alloc());
     let big = objects.value(zeros.as_slice())?;
     let five = objects.cat(&[big, big, big, big, big])?;
-    let one = objects.cat(&[big])?;
     let mut keeper = objects.keeper(&[])?;
-    let ran = force(alloc, &mut keeper, &[Item::Out(five, 0)])?;
+    let ran = force(rt.alloc(), &mut keeper, &[Item::Out(five, 0)])?;
     let said = Said {
         status: Status::TooBig,
         before: "job too big: ",
         name: five,
         behind: " 83886164",
     };
-    assert_says(&rt, &ran, &said, alloc)?;
-    let item = Item::Out(one, 0);
-    let ran = force(alloc, &mut keeper, &[item])?;
-    assert_done(&rt, &ran, &[(name_of(zeros.as_slice())?, item)], alloc)
+    assert_says(&rt, &ran, &said, rt.alloc())
+}
+
+#[test]
+fn greatest_output(rt: HostRuntime) -> Result<(), Fail> {
+    let zeros = vec![in rt.alloc(); 0u8; 16_777_216]?;
+    let mut objects = Objects::new(rt.alloc());
+    let big = objects.value(zeros.as_slice())?;
+    let one = objects.cat(&[big])?;
+    let mut keeper = objects.keeper(&[])?;
+    assert_gives(&rt, rt.alloc(), &mut keeper, one, zeros.as_slice())
 }
 
 #[test]
 fn damage_is_replaced(rt: HostRuntime) -> Result<(), Fail> {
-    let alloc = rt.alloc();
-    let mut objects = Objects::new(alloc);
+    let mut objects = Objects::new(rt.alloc());
     let thunk = objects.cat_of_three()?;
-    let abc = name_of(b"abc")?;
-    objects.add_under(abc, b"abd")?;
+    objects.add_under(name_of(b"abc")?, b"abd")?;
     let mut keeper = objects.keeper(&[])?;
-    let item = Item::Out(thunk, 0);
-    let ran = force(alloc, &mut keeper, &[item])?;
-    assert_done(&rt, &ran, &[(abc, item)], alloc)?;
-    assert_eq!(rt; keeper.puts(), [abc, thunk].as_slice());
-    Ok(())
+    assert_gives(&rt, rt.alloc(), &mut keeper, thunk, b"abc")?;
+    assert_wrote_abc(&rt, &keeper, thunk)
 }

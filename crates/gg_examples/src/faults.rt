@@ -1,7 +1,7 @@
 //! A store and an output that fail.
 
 use crate::objects::{Item, Objects};
-use crate::running::{assert_done, assert_refused, force, run_with};
+use crate::running::{assert_gives, assert_refused, force_one, run_with};
 use gg_cli::Status;
 use object_name::name_of;
 use std::test::Fail;
@@ -14,17 +14,15 @@ const CALLS: u64 = 13;
 #[test]
 fn each_call_of_the_store_fails_in_turn(rt: HostRuntime) -> Result<(), Fail> {
     let alloc = rt.alloc();
-    let abc = name_of(b"abc")?;
     for failing in 1..CALLS + 1 {
         let mut objects = Objects::new(alloc);
-        let item = Item::Out(objects.cat_of_three()?, 0);
+        let thunk = objects.cat_of_three()?;
         let mut keeper = objects.keeper(&[failing])?;
-        let ran = force(alloc, &mut keeper, &[item])?;
+        let ran = force_one(alloc, &mut keeper, &Item::Out(thunk, 0))?;
         assert_refused(&rt, &ran, Status::StoreFault, b"gg: store fault\n");
         assert_eq!(rt; keeper.calls(), failing);
         // The same command over what is left gives the undisturbed answer.
-        let ran = force(alloc, &mut keeper, &[item])?;
-        assert_done(&rt, &ran, &[(abc, item)], alloc)?;
+        assert_gives(&rt, alloc, &mut keeper, thunk, b"abc")?;
         assert_eq!(rt; keeper.puts().len(), 2);
     }
     Ok(())

@@ -3,7 +3,7 @@
 use crate::objects::{Item, append_item, append_name};
 use blob_store::MemKeeper;
 use gg_cli::{Status, gg_top};
-use object_name::{Bytes, Many, MemSink, Name};
+use object_name::{Bytes, Many, MemSink, Name, name_of};
 use std::alloc::Global;
 use std::process::Abort;
 use std::test::Fail;
@@ -75,6 +75,26 @@ pub fn run(
     run_with(alloc, keeper, words, items, &[])
 }
 
+/// Runs the command line of some words and one item.
+pub fn run_one(
+    alloc: Global,
+    keeper: &mut MemKeeper,
+    words: &[&str],
+    item: &Item,
+) -> Result<Ran, Fail> {
+    let mut all = Vec::new(alloc);
+    for word in words {
+        add_word(alloc, &mut all, word.as_bytes())?;
+    }
+    add_item(alloc, &mut all, item)?;
+    run_words(alloc, keeper, all.as_slice(), &[])
+}
+
+/// Forces one item here.
+pub fn force_one(alloc: Global, keeper: &mut MemKeeper, item: &Item) -> Result<Ran, Fail> {
+    run_one(alloc, keeper, &["force", "--local"], item)
+}
+
 /// Forces some items here.
 pub fn force(alloc: Global, keeper: &mut MemKeeper, items: &[Item]) -> Result<Ran, Fail> {
     run(alloc, keeper, &["force", "--local"], items)
@@ -110,6 +130,35 @@ pub fn assert_done(
     assert_eq!(rt; ran.out.as_slice(), lines.as_slice());
     assert!(rt; ran.err.is_empty());
     Ok(())
+}
+
+/// A command line is done, and printed that an item has these bytes as its value, and nothing else.
+pub fn assert_value(
+    rt: &impl Abort,
+    ran: &Ran,
+    bytes: &[u8],
+    item: &Item,
+    alloc: Global,
+) -> Result<(), Fail> {
+    let mut line = Bytes::new(alloc);
+    append_value(&mut line, &name_of(bytes)?, item)?;
+    assert_eq!(rt; ran.status, Status::Done);
+    assert_eq!(rt; ran.out.as_slice(), line.as_slice());
+    assert!(rt; ran.err.is_empty());
+    Ok(())
+}
+
+/// The first output of a thunk has these bytes as its value.
+pub fn assert_gives(
+    rt: &impl Abort,
+    alloc: Global,
+    keeper: &mut MemKeeper,
+    thunk: Name,
+    bytes: &[u8],
+) -> Result<(), Fail> {
+    let item = Item::Out(thunk, 0);
+    let ran = force_one(alloc, keeper, &item)?;
+    assert_value(rt, &ran, bytes, &item, alloc)
 }
 
 /// A refused command line prints one line, on the fault sink alone.

@@ -1,9 +1,9 @@
 //! Thunks within thunks: outputs as inputs and as functions, thunks that functions answer with, and the budget.
 
 use crate::objects::{CAT, Item, Objects, thunk_text};
-use crate::running::{Said, assert_done, assert_says, force, run};
+use crate::running::{Said, assert_done, assert_gives, assert_says, force, run, run_one};
 use gg_cli::Status;
-use object_name::{Name, name_of};
+use object_name::{Bytes, Name, name_of};
 use std::test::Fail;
 
 #[test]
@@ -68,52 +68,64 @@ fn budget_is_shared(rt: HostRuntime) -> Result<(), Fail> {
     Ok(())
 }
 
-/// Adds a `cat` whose output is the text of the `cat` of `ab`, no bytes and `c`, and gives both names.
-fn add_yielding(objects: &mut Objects) -> Result<(Name, Name), Fail> {
+/// Adds the two parts of a text as values, of which the first is too short for a thunk.
+fn add_parts(objects: &mut Objects, text: &[u8]) -> Result<(Item, Item), Fail> {
+    let (front, back) = text.split_at(text.len().min(6));
+    Ok((objects.value(front)?, objects.value(back)?))
+}
+
+/// The text of the `cat` of `ab`, no bytes and `c`, whose objects are added, but not the text.
+fn text_of_three(objects: &mut Objects) -> Result<Bytes, Fail> {
     let function = objects.value(CAT)?;
     let a = objects.value(b"ab")?;
     let b = objects.value(b"")?;
     let c = objects.value(b"c")?;
-    let text = thunk_text(objects.alloc, &function, &[a, b, c])?;
+    thunk_text(objects.alloc, &function, &[a, b, c])
+}
+
+/// Adds a `cat` whose output is that text, and gives its name and that of the text.
+fn add_yielding(objects: &mut Objects) -> Result<(Name, Name), Fail> {
+    let text = text_of_three(objects)?;
     let inner = name_of(text.as_slice())?;
-    let (front, back) = text.as_slice().split_at(6);
-    let front = objects.value(front)?;
-    let back = objects.value(back)?;
+    let (front, back) = add_parts(objects, text.as_slice())?;
     let outer = objects.cat(&[front, back])?;
     Ok((outer, inner))
 }
 
 #[test]
 fn thunk_as_answer(rt: HostRuntime) -> Result<(), Fail> {
-    let alloc = rt.alloc();
-    let mut objects = Objects::new(alloc);
+    let mut objects = Objects::new(rt.alloc());
     let (outer, inner) = add_yielding(&mut objects)?;
-    let item = Item::Out(outer, 0);
+    let mut keeper = objects.keeper(&[])?;
+    assert_gives(&rt, rt.alloc(), &mut keeper, outer, b"abc")?;
+    // The text that was the answer and a note, then the value and a note.
+    let puts = keeper.puts();
+    assert_eq!(rt; puts.len(), 4);
+    assert_eq!(rt; puts.first(), Some(&inner));
+    assert_eq!(rt; puts.get(1), Some(&outer));
+    assert_eq!(rt; puts.last(), Some(&inner));
+    Ok(())
+}
+
+#[test]
+fn steps_to_an_answer(rt: HostRuntime) -> Result<(), Fail> {
+    let mut objects = Objects::new(rt.alloc());
+    let (outer, inner) = add_yielding(&mut objects)?;
     let mut keeper = objects.keeper(&[])?;
     // One step for the entry, one for the passage, and one for the entry into the thunk that was the answer.
-    let ran = run(
-        alloc,
-        &mut keeper,
-        &["force", "--local", "--budget", "2"],
-        &[item],
-    )?;
+    let two = ["force", "--local", "--budget", "2"];
+    let ran = run_one(rt.alloc(), &mut keeper, &two, &Item::Out(outer, 0))?;
     let said = Said {
         status: Status::Spent,
         before: "budget of 2 steps spent at ",
         name: inner,
         behind: "",
     };
-    assert_says(&rt, &ran, &said, alloc)?;
-    assert_eq!(rt; keeper.puts(), [inner, outer].as_slice());
-    let abc = name_of(b"abc")?;
-    let ran = run(
-        alloc,
-        &mut keeper,
-        &["force", "--local", "--budget", "3"],
-        &[item],
-    )?;
-    assert_done(&rt, &ran, &[(abc, item)], alloc)?;
-    assert_eq!(rt; keeper.puts(), [inner, outer, abc, inner].as_slice());
+    assert_says(&rt, &ran, &said, rt.alloc())?;
+    assert_eq!(rt; keeper.puts().len(), 2);
+    let three = ["force", "--local", "--budget", "3"];
+    let ran = run_one(rt.alloc(), &mut keeper, &three, &Item::Out(outer, 0))?;
+    assert_eq!(rt; ran.status, Status::Done);
     Ok(())
 }
 
