@@ -1,0 +1,1 @@
+//! Trees in a folder under the system's folder for temporary files.
