@@ -2,7 +2,7 @@
 
 ghost use Rattle.std.specs.Prelude.{◌≡◌, ◌↔◌, length, IsTrue, IsErrOf, IfOk, OnOk, OnErr};
 ghost use Rattle.std.specs.FinMap as map;
-ghost use Rattle.std.specs.Option.{option_map};
+ghost use Rattle.std.specs.Option.{option_copied};
 ghost use Rattle.object_name.specs.Causes.{HasCause};
 ghost use Rattle.object_name.specs.Calls.{fails_next};
 ghost use Rattle.file_tree.specs.Files.{IsShort, file_read};
@@ -121,7 +121,7 @@ impl Tree for MemTree {
 
 /// What reading gives, by the bytes of a file.
 fn file_read(alloc: Global, found: Option<&Bytes>) -> Result<FileRead, AllocError>
-    ensures exact { IfOk result (λ read. read ≡ file_read (option_map (λ bytes. bytes.now) found)) }
+    ensures exact { IfOk result (λ read. read ≡ file_read (option_copied found.entry)) }
     ensures short { IfOk result IsShort }
 {
     let Some(bytes) = found else {

@@ -103,7 +103,9 @@ fn ref_of_read(alloc: Global, path: &Path, read: &FileRead) -> Result<Ref, WantF
 {
     let bytes = match read {
         FileRead::Absent => return Err(WantFault::Refused(FileRefusal::NoFile(path.copy(alloc)?))),
-        FileRead::TooLong => return Err(WantFault::Refused(FileRefusal::TooLong(path.copy(alloc)?))),
+        FileRead::TooLong => return Err(WantFault::Refused(FileRefusal::TooLong(path.copy(
+            alloc,
+        )?))),
         FileRead::Bytes(bytes) => bytes,
     };
     match read_placeholder(bytes.as_slice()) {
