@@ -58,12 +58,29 @@ pub fn write_file<R: Files>(
     let name = name_of(alloc, root, path.text(), "")?;
     let beside = name_of(alloc, root, path.text(), BESIDE)?;
     let folder = name_of(alloc, root, path.folder(alloc)?.text(), "")?;
-    write_beside(files, folder.as_str(), beside.as_str(), bytes)?;
-    let renamed = files.rename(beside.as_str(), name.as_str());
-    if renamed.is_err() {
+    let done = write_by(
+        files,
+        folder.as_str(),
+        beside.as_str(),
+        name.as_str(),
+        bytes,
+    );
+    if done.is_err() {
         let _ = files.remove_file(beside.as_str());
     }
-    renamed
+    done
+}
+
+/// Writes a file by one beside it, and leaves that one where it fails.
+fn write_by<R: Files>(
+    files: &R,
+    folder: &str,
+    beside: &str,
+    name: &str,
+    bytes: &[u8],
+) -> io::Result<()> {
+    write_new(files, folder, beside, bytes)?;
+    files.rename(beside, name)
 }
 
 /// Removes the file at a path, if there is one.
@@ -93,7 +110,7 @@ fn is_absent(error: &io::Error) -> bool {
 }
 
 /// Writes a new file, and makes its folder where that is missing.
-fn write_beside<R: Files>(files: &R, folder: &str, path: &str, bytes: &[u8]) -> io::Result<()> {
+fn write_new<R: Files>(files: &R, folder: &str, path: &str, bytes: &[u8]) -> io::Result<()> {
     let mut file = match File::create(files, path) {
         Err(error) if error.kind() == ErrorKind::NotFound => {
             fs::create_dir_all(files, folder)?;

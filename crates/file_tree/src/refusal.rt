@@ -19,11 +19,11 @@ pub enum FileRefusal {
     TooLong(Path),
     /// The file is no placeholder.
     NotPlaceholder(Path),
-    /// The file would be made while it is read.
+    /// The file is a placeholder, and bytes are needed.
     Generated(Path),
-    /// The file is a thunk's text.
+    /// The bytes of the file are those of a thunk, and a value is needed.
     ThunkText(Path),
-    /// The name of the file that is included in this line is computed.
+    /// A line includes a file whose name is computed.
     Computed { path: Path, line: u32 },
 }
 
