@@ -1,7 +1,7 @@
 //! Files under one folder, by their paths.
 
-ghost use Rattle.std.specs.Prelude.{IfOk};
-ghost use Rattle.file_tree.specs.Files.{IsShort};
+ghost use Rattle.std.specs.Prelude.{◌≡◌, Some, IfOk, IfSome};
+ghost use Rattle.file_tree.specs.Files.{IsShort, file_read};
 
 use crate::tree::FileRead;
 use object_name::{MAX_SIZE, ReadEnd, ReadSource, read_all};
@@ -38,7 +38,15 @@ fn read_open<F: Read + OpenFile + Drop>(alloc: Global, file: F) -> io::Result<Fi
     if file.metadata()?.is_dir() {
         return Ok(FileRead::Absent);
     }
-    match read_all(alloc, &mut ReadSource::new(file), MAX_SIZE as usize) {
+    read_bytes(alloc, file)
+}
+
+/// The bytes that a reader has, where they are no more than an object may have.
+fn read_bytes<F: Read + Drop>(alloc: Global, reader: F) -> io::Result<FileRead>
+    ensures exact { IfOk result (λ read. IfSome (F.remaining reader) (λ all. read ≡ file_read (Some all))) }
+    ensures short { IfOk result IsShort }
+{
+    match read_all(alloc, &mut ReadSource::new(reader), MAX_SIZE as usize) {
         Ok(bytes) => Ok(FileRead::Bytes(bytes)),
         Err(ReadEnd::TooLong) => Ok(FileRead::TooLong),
         Err(ReadEnd::Failed) => Err(io::Error::from(ErrorKind::Other)),
