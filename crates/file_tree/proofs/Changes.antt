@@ -1,7 +1,7 @@
 -- Changes of trees, made once or twice.
 use Rattle.std.proofs.Common.{◌≡◌, inl, inr, ℕ, Bool, true, false, cond, List, Option, Some, None, refl, ap, ◌∙◌}
 use Rattle.std.specs.Prelude.{bytes_eq}
-use Rattle.file_tree.specs.Files.{Files, Change, put_file, without_file, after_change, MayChange}
+use Rattle.file_tree.specs.Files.{Files, Change, after_change, MayChange}
 use Rattle.file_tree.specs.Files.Change.{Written, Removed}
 
 -- of two choices by one test the inner one goes by the outer

@@ -6,7 +6,7 @@ use Rattle.std.proofs.lemmas.List.Elements.{All-push}
 use Rattle.thunk_codec.specs.declared.reference.Ref.{Ref}
 use Rattle.thunk_codec.specs.Reference.{IsRef}
 use Rattle.file_tree.specs.Files.{Files}
-use Rattle.file_tree.specs.Wanted.{ref_of_item, refs_of, in_front, item_then}
+use Rattle.file_tree.specs.Wanted.{ref_of_item, refs_of, item_then}
 use Rattle.file_tree.specs.declared.item.Item.{Item}
 use Rattle.file_tree.specs.Wanting.{Answers}
 use Rattle.file_tree.specs.declared.refusal.FileRefusal.{FileRefusal}

@@ -3,7 +3,6 @@ use Rattle.std.specs.Prelude.{◌≡◌, ◌⊎◌, ℕ, List, Result, Ok, Err}
 use Rattle.object_name.specs.Causes.{RoseBy}
 use Rattle.object_name.specs.declared.trouble.Trouble.{Trouble}
 use Rattle.object_name.specs.declared.trouble.Trouble.TheVariants as troubles
-use Rattle.thunk_codec.specs.declared.reference.Ref.{Ref}
 use Rattle.file_tree.specs.declared.refusal.FileRefusal.{FileRefusal}
 use Rattle.file_tree.specs.declared.refusal.FileRefusal.TheVariants.{Twice}
 use Rattle.file_tree.specs.declared.refusal.WantFault.{WantFault}

@@ -1,4 +1,3 @@
-use Rattle.std.proofs.Common.{◌∙◌}
 use Rattle.file_tree.proofs.MapLemmas.{read-found}
 use Rattle.file_tree.proofs.mem_tree.MemTreeTree.read.Goals as goal
 
