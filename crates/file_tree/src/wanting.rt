@@ -1,10 +1,10 @@
 //! The references that are wanted.
 
-ghost use Rattle.std.specs.Prelude.{◌≡◌, ◌≢◌, ◌≤◌, All, IfOk, IfErr, IfSome};
+ghost use Rattle.std.specs.Prelude.{◌≡◌, ◌≢◌, ◌≤◌, All, None, IfOk, IfErr, IfSome};
 ghost use Rattle.thunk_codec.specs.Reference.{IsRef};
 ghost use Rattle.file_tree.specs.Files.{file_read};
 ghost use Rattle.file_tree.specs.Wanted.{IsItem, ref_of_item, ref_of_read, refs_of, repeated_item, wanted_of};
-ghost use Rattle.file_tree.specs.Wanting.{Answers, RefusesTwice, WantCause};
+ghost use Rattle.file_tree.specs.Wanting.{Answers, NeverTwice, RefusesTwice, WantCause};
 
 use crate::again::read_again;
 use crate::item::{Item, find_repeated};
@@ -25,6 +25,7 @@ pub fn wanted<T: Tree>(
     requires { All IsItem items.now }
     ensures exact { T.tells → Answers (wanted_of (T.files tree.old) items.now) result }
     ensures twice { IfSome (repeated_item items.now) (λ text. RefusesTwice text result × (tree.new ≡ tree.old)) }
+    ensures only { repeated_item items.now ≡ None → NeverTwice result }
     ensures refs { IfOk result (All IsRef) }
     ensures same { T.tells → T.files tree.new ≡ T.files tree.old }
     ensures later { T.faults tree.old ≤ T.faults tree.new }
@@ -45,6 +46,7 @@ fn refs_of<T: Tree>(
 ) -> Result<Many<Ref>, WantFault>
     requires { All IsItem items.now }
     ensures exact { T.tells → Answers (refs_of (T.files tree.old) items.now) result }
+    ensures other { NeverTwice result }
     ensures refs { IfOk result (All IsRef) }
     ensures same { T.tells → T.files tree.new ≡ T.files tree.old }
     ensures later { T.faults tree.old ≤ T.faults tree.new }
@@ -67,6 +69,7 @@ fn ref_of_item<T: Tree>(
 ) -> Result<Ref, WantFault>
     requires { IsItem item.now }
     ensures exact { T.tells → Answers (ref_of_item (T.files tree.old) item.now) result }
+    ensures other { NeverTwice result }
     ensures refs { IfOk result IsRef }
     ensures same { T.tells → T.files tree.new ≡ T.files tree.old }
     ensures later { T.faults tree.old ≤ T.faults tree.new }
@@ -86,6 +89,7 @@ fn ref_of_file<T: Tree>(
     retries: u32,
 ) -> Result<Ref, WantFault>
     ensures exact { T.tells → Answers (ref_of_read path.now (file_read (T.files tree.old path.now))) result }
+    ensures other { NeverTwice result }
     ensures refs { IfOk result IsRef }
     ensures same { T.tells → T.files tree.new ≡ T.files tree.old }
     ensures later { T.faults tree.old ≤ T.faults tree.new }
@@ -98,6 +102,7 @@ fn ref_of_file<T: Tree>(
 /// The reference that a file stands for, by what was read.
 fn ref_of_read(alloc: Global, path: &Path, read: &FileRead) -> Result<Ref, WantFault>
     ensures exact { Answers (ref_of_read path.now read.now) result }
+    ensures other { NeverTwice result }
     ensures refs { IfOk result IsRef }
     ensures cause { IfErr result (λ fault. fault ≢ WantFault.Failed) }
 {
