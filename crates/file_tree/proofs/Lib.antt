@@ -1,0 +1,5 @@
+pub mod Changes
+pub mod Retries
+pub mod MapLemmas
+pub mod Repeats
+pub mod Gathering

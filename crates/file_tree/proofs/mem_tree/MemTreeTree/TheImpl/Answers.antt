@@ -1,0 +1,20 @@
+use Rattle.std.proofs.Common.{inl}
+use Rattle.std.proofs.lemmas.Result.{on_ok_weaker, on_err_weaker}
+use Rattle.file_tree.proofs.MapLemmas.{files_of-with_file, files_of-with_none, files_of-called}
+use Rattle.file_tree.proofs.mem_tree.MemTreeTree.TheImpl.Goals as goal
+
+pub write-tells : goal.write-tells
+write-tells c =
+    record {
+      made = λ _. on_ok_weaker c.result (files_of-with_file c.args.self.now c.new.self.now c.args.path.now c.args.bytes.now) c.ensures.made;
+      kept = λ _. on_err_weaker c.result (λ same. inl (files_of-called c.args.self.now c.new.self.now same)) c.ensures.kept;
+      cause = c.ensures.cause;
+    }
+
+pub remove-tells : goal.remove-tells
+remove-tells c =
+    record {
+      made = λ _. on_ok_weaker c.result (files_of-with_none c.args.self.now c.new.self.now c.args.path.now) c.ensures.made;
+      kept = λ _. on_err_weaker c.result (λ same. inl (files_of-called c.args.self.now c.new.self.now same)) c.ensures.kept;
+      cause = c.ensures.cause;
+    }

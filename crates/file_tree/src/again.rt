@@ -1,0 +1,52 @@
+//! Calls of a tree that are tried again.
+
+ghost use Rattle.std.specs.Prelude.{◌≡◌, IfOk, OnOk, OnErr};
+ghost use Rattle.object_name.specs.Causes.{HasCauseBy};
+ghost use Rattle.file_tree.specs.Files.{MayChange, IsShort, after_change, file_read};
+ghost use Rattle.file_tree.specs.Files.Change.{Written};
+
+use crate::tree::{FileRead, Tree};
+use object_name::Trouble;
+use std::alloc::Global;
+use thunk_codec::Path;
+
+/// What stands at a path, by the first of `retries` + 1 calls that doesn't fail.
+pub fn read_again<T: Tree>(
+    alloc: Global,
+    tree: &mut T,
+    path: &Path,
+    retries: u32,
+) -> Result<FileRead, Trouble>
+    ensures found { T.tells → IfOk result (λ read. read ≡ file_read (T.files tree.old path.now)) }
+    ensures short { IfOk result IsShort }
+    ensures same { T.tells → T.files tree.new ≡ T.files tree.old }
+    ensures cause { HasCauseBy retries (T.faults tree.old) (T.faults tree.new) result }
+{
+    'tries: for _ in 0..retries {
+        match tree.read(alloc, path) {
+            Err(Trouble::Failed) => {}
+            answer => return answer,
+        }
+    }
+    tree.read(alloc, path)
+}
+
+/// Writes a file by the first of `retries` + 1 calls that doesn't fail. A failed write may have been made.
+pub fn write_again<T: Tree>(
+    tree: &mut T,
+    path: &Path,
+    bytes: &[u8],
+    retries: u32,
+) -> Result<(), Trouble>
+    ensures made { T.tells → OnOk result (T.files tree.new ≡ after_change (T.files tree.old) (Written path.now bytes.now)) }
+    ensures kept { T.tells → OnErr result (MayChange (T.files tree.old) (Written path.now bytes.now) (T.files tree.new)) }
+    ensures cause { HasCauseBy retries (T.faults tree.old) (T.faults tree.new) result }
+{
+    'tries: for _ in 0..retries {
+        match tree.write(path, bytes) {
+            Err(Trouble::Failed) => {}
+            answer => return answer,
+        }
+    }
+    tree.write(path, bytes)
+}

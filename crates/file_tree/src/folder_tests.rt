@@ -1,0 +1,111 @@
+//! Trees in a folder under the system's folder for temporary files.
+
+use crate::{FileRead, FolderTree, Tree};
+use object_name::MAX_SIZE;
+use std::alloc::Global;
+use std::fs::File;
+use std::test::Fail;
+use std::{env, fs, io, process};
+use thunk_codec::Path;
+
+/// A folder for one test.
+fn test_folder(rt: &HostRuntime, test: &str) -> io::Result<String> {
+    let parent = env::temp_dir(rt)?;
+    let parent = parent.as_str();
+    let number = process::id(rt.process());
+    Ok(format!(in rt.alloc(); "{parent}/gg-file-tree-{number}-{test}")?)
+}
+
+/// A path.
+fn path(alloc: Global, text: &[u8]) -> Result<Path, Fail> {
+    Ok(Path::read(alloc, text)?.ok_or("there is a path")?)
+}
+
+/// What stands at a path.
+fn read(rt: &HostRuntime, root: &str, text: &[u8]) -> Result<FileRead, Fail> {
+    let mut tree = FolderTree::new(rt.alloc(), rt, root)?;
+    Ok(tree.read(rt.alloc(), &path(rt.alloc(), text)?)?)
+}
+
+/// Whether these bytes stand at a path.
+fn holds(rt: &HostRuntime, root: &str, text: &[u8], wanted: &[u8]) -> Result<bool, Fail> {
+    match read(rt, root, text)? {
+        FileRead::Bytes(bytes) => Ok(bytes.as_slice() == wanted),
+        _ => Ok(false),
+    }
+}
+
+/// Whether nothing stands at a path.
+fn is_absent(rt: &HostRuntime, root: &str, text: &[u8]) -> Result<bool, Fail> {
+    Ok(matches!(read(rt, root, text)?, FileRead::Absent))
+}
+
+/// Writes a file, and says whether it was written, and how often the tree failed.
+fn write(rt: &HostRuntime, root: &str, text: &[u8], bytes: &[u8]) -> Result<(bool, u64), Fail> {
+    let mut tree = FolderTree::new(rt.alloc(), rt, root)?;
+    let written = tree.write(&path(rt.alloc(), text)?, bytes).is_ok();
+    Ok((written, tree.faults()))
+}
+
+/// Removes a file.
+fn remove(rt: &HostRuntime, root: &str, text: &[u8]) -> Result<(), Fail> {
+    let mut tree = FolderTree::new(rt.alloc(), rt, root)?;
+    Ok(tree.remove(&path(rt.alloc(), text)?)?)
+}
+
+#[test]
+fn a_folder_has_files(rt: HostRuntime) -> Result<(), Fail> {
+    let root = test_folder(&rt, "files")?;
+    let root = root.as_str();
+    assert!(rt; is_absent(&rt, root, b"a/b/c")?);
+    assert_eq!(rt; write(&rt, root, b"a/b/c", b"abc")?, (true, 0));
+    assert_eq!(rt; write(&rt, root, b"d", b"")?, (true, 0));
+    assert!(rt; holds(&rt, root, b"a/b/c", b"abc")?);
+    assert_eq!(rt; write(&rt, root, b"a/b/c", b"de")?, (true, 0));
+    assert!(rt; holds(&rt, root, b"a/b/c", b"de")?);
+    fs::remove_dir_all(&rt, root)?;
+    Ok(())
+}
+
+#[test]
+fn a_file_is_removed(rt: HostRuntime) -> Result<(), Fail> {
+    let root = test_folder(&rt, "removes")?;
+    let root = root.as_str();
+    assert_eq!(rt; write(&rt, root, b"a", b"abc")?, (true, 0));
+    remove(&rt, root, b"a")?;
+    remove(&rt, root, b"a")?;
+    remove(&rt, root, b"a/b")?;
+    assert!(rt; is_absent(&rt, root, b"a")?);
+    fs::remove_dir_all(&rt, root)?;
+    Ok(())
+}
+
+#[test]
+fn a_folder_and_what_passes_through_a_file_have_no_bytes(rt: HostRuntime) -> Result<(), Fail> {
+    let root = test_folder(&rt, "folders")?;
+    let root = root.as_str();
+    assert_eq!(rt; write(&rt, root, b"a/b", b"abc")?, (true, 0));
+    assert!(rt; is_absent(&rt, root, b"a")?);
+    assert!(rt; is_absent(&rt, root, b"a/b/c")?);
+    assert_eq!(rt; write(&rt, root, b"a", b"abc")?, (false, 1));
+    assert_eq!(rt; write(&rt, root, b"a/b/c", b"abc")?, (false, 1));
+    remove(&rt, root, b"a/b")?;
+    let left = format!(in rt.alloc(); "{root}/a")?;
+    fs::remove_dir(&rt, left.as_str())?;
+    fs::remove_dir(&rt, root)?;
+    Ok(())
+}
+
+#[test]
+fn a_file_over_the_limit_is_too_long(rt: HostRuntime) -> Result<(), Fail> {
+    let root = test_folder(&rt, "limit")?;
+    let root = root.as_str();
+    assert_eq!(rt; write(&rt, root, b"a", b"abc")?, (true, 0));
+    let name = format!(in rt.alloc(); "{root}/a")?;
+    File::create(&rt, name.as_str())?.set_len(u64::from(MAX_SIZE))?;
+    assert!(rt; matches!(read(&rt, root, b"a")?, FileRead::Bytes(_)));
+    File::create(&rt, name.as_str())?.set_len(u64::from(MAX_SIZE) + 1)?;
+    assert!(rt; matches!(read(&rt, root, b"a")?, FileRead::TooLong));
+    fs::remove_dir_all(&rt, root)?;
+    Ok(())
+}
