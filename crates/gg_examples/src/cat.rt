@@ -193,10 +193,10 @@ fn add_greatest(objects: &mut Objects) -> Result<Item, Fail> {
 }
 
 /// Adds a `cat` whose inputs are one value, so many times.
-fn cat_of_many(objects: &mut Objects, value: Item, number: usize) -> Result<Name, Fail> {
+fn cat_of_many(objects: &mut Objects, value: &Item, number: usize) -> Result<Name, Fail> {
     let mut inputs = Vec::new(objects.alloc);
     for _ in 0..number {
-        inputs.push(value)?;
+        inputs.push(*value)?;
     }
     objects.cat(inputs.as_slice())
 }
@@ -205,7 +205,7 @@ fn cat_of_many(objects: &mut Objects, value: Item, number: usize) -> Result<Name
 fn job_too_big(rt: HostRuntime) -> Result<(), Fail> {
     let mut objects = Objects::new(rt.alloc());
     let big = add_greatest(&mut objects)?;
-    let five = cat_of_many(&mut objects, big, 5)?;
+    let five = cat_of_many(&mut objects, &big, 5)?;
     let mut keeper = objects.keeper(&[])?;
     let ran = force_one(rt.alloc(), &mut keeper, &Item::Out(five, 0))?;
     let said = Said {
@@ -221,7 +221,7 @@ fn job_too_big(rt: HostRuntime) -> Result<(), Fail> {
 fn greatest_output(rt: HostRuntime) -> Result<(), Fail> {
     let mut objects = Objects::new(rt.alloc());
     let big = add_greatest(&mut objects)?;
-    let one = cat_of_many(&mut objects, big, 1)?;
+    let one = cat_of_many(&mut objects, &big, 1)?;
     let mut keeper = objects.keeper(&[])?;
     let ran = force_one(rt.alloc(), &mut keeper, &Item::Out(one, 0))?;
     assert_eq!(rt; ran.status, Status::Done);
