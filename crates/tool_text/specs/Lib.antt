@@ -1,0 +1,5 @@
+pub mod Numbers
+pub mod Limit
+pub mod Cat
+pub mod Fail
+pub mod Add
