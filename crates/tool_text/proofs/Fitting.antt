@@ -1,16 +1,16 @@
 -- The outcomes of the cards fit their jobs.
-use Rattle.std.proofs.Common.{◌≡◌, ◌≤◌, ◌+◌, ◌^◌, ◌∷◌, [], ℕ, List, length, Bool, true, false, Option, Some, None, leb, eqb, cond, refl, sym, subst, ◌∙◌, eqb-true, leb-true, lit≤, arith}
+use Rattle.std.proofs.Common.{◌≡◌, ◌≤◌, ◌+◌, ◌^◌, ◌∷◌, [], ℕ, List, length, Bool, true, false, Option, Some, None, cond, refl, sym, eqb-true, leb-true, lit≤, arith}
 use Rattle.std.specs.Prelude.{◌==◌, ◌&&◌, nat_lt, nat_le, bytes_eq, codes, unwrap_or}
 use Rattle.std.proofs.lemmas.Bool.{and_parts}
 use Rattle.object_name.specs.Number.{number_of}
 use Rattle.thunk_codec.specs.declared.job.Job.{Job}
 use Rattle.thunk_codec.specs.declared.job.Outcome.{Outcome}
-use Rattle.thunk_codec.specs.declared.job.Outcome.TheVariants.{Done, Failed}
+use Rattle.thunk_codec.specs.declared.job.Outcome.TheVariants.{Failed}
 use Rattle.thunk_codec.specs.Outcome.{Fits}
 use Rattle.thunk_codec.specs.Maybe.{◌>>=◌}
 use Rattle.tool_text.specs.Limit.{IsWithinLimit}
-use Rattle.tool_text.specs.Numbers.{number_line, number_in}
-use Rattle.tool_text.specs.Cat.{joined, cat_outcome}
+use Rattle.tool_text.specs.Numbers.{number_in}
+use Rattle.tool_text.specs.Cat.{cat_outcome}
 use Rattle.tool_text.specs.Fail.{status_in, status_of, fail_outcome}
 use Rattle.tool_text.specs.Add.{sum_outcome, inputs_outcome, add_outcome}
 
@@ -35,8 +35,8 @@ pub cat_fits : (job : Job) → FitsWithin job (cat_outcome job)
 cat_fits job = of_choice (FitsWithin job) ((length job.args == 0) && (length job.outputs == 1)) _ _ (λ is_form within. (one_output job is_form, within)) (bad_form job)
 
 sum_fits : (job : Job) (a b : Option ℕ) → 1 ≡ length job.outputs → FitsWithin job (sum_outcome a b)
-sum_fits job None b one _ = (lit≤ tt, lit≤ tt)
-sum_fits job (Some a) None one _ = (lit≤ tt, lit≤ tt)
+sum_fits job None b one = λ _. (lit≤ tt, lit≤ tt)
+sum_fits job (Some a) None one = λ _. (lit≤ tt, lit≤ tt)
 sum_fits job (Some a) (Some b) one = of_choice (FitsWithin job) (nat_lt (a + b) (2 ^ 64)) _ _ (λ _ within. (one, within)) (λ _. (lit≤ tt, lit≤ tt))
 
 inputs_fit : (job : Job) (inputs : List (List ℕ × List ℕ)) → 1 ≡ length job.outputs → FitsWithin job (inputs_outcome inputs)

@@ -3,7 +3,7 @@ use Rattle.std.specs.Prelude.{ℕ, List, [], ◌∷◌, ◌==◌, ◌&&◌, nat_
 use Rattle.object_name.specs.Number.{number_of}
 use Rattle.thunk_codec.specs.declared.job.Job.{Job}
 use Rattle.thunk_codec.specs.declared.job.Outcome.{Outcome}
-use Rattle.thunk_codec.specs.declared.job.Outcome.TheVariants.{Done, Failed}
+use Rattle.thunk_codec.specs.declared.job.Outcome.TheVariants.{Failed}
 use Rattle.thunk_codec.specs.Maybe.{◌>>=◌, ◌>>◌, check}
 
 -- the status that a text says, a canonical decimal number of 1 to 200
