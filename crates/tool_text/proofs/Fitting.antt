@@ -2,17 +2,20 @@
 use Rattle.std.proofs.Common.{◌≡◌, ◌≤◌, ◌+◌, ◌^◌, ◌∷◌, [], ℕ, List, length, Bool, true, false, Option, Some, None, cond, refl, sym, eqb-true, leb-true, lit≤, arith}
 use Rattle.std.specs.Prelude.{◌==◌, ◌&&◌, nat_lt, nat_le, bytes_eq, codes, unwrap_or}
 use Rattle.std.proofs.lemmas.Bool.{and_parts}
+use Rattle.std.specs.Cmp.Lexicographic.{pointwise, as_long}
 use Rattle.object_name.specs.Number.{number_of}
 use Rattle.thunk_codec.specs.declared.job.Job.{Job}
 use Rattle.thunk_codec.specs.declared.job.Outcome.{Outcome}
 use Rattle.thunk_codec.specs.declared.job.Outcome.TheVariants.{Failed}
 use Rattle.thunk_codec.specs.Outcome.{Fits}
 use Rattle.thunk_codec.specs.Maybe.{◌>>=◌}
+use Rattle.tool_text.specs.declared.fib_thunks.Asked.{Asked}
 use Rattle.tool_text.specs.Limit.{IsWithinLimit}
 use Rattle.tool_text.specs.Numbers.{number_in}
 use Rattle.tool_text.specs.Cat.{cat_outcome}
 use Rattle.tool_text.specs.Fail.{status_in, status_of, fail_outcome}
 use Rattle.tool_text.specs.Add.{sum_outcome, inputs_outcome, add_outcome}
+use Rattle.tool_text.specs.Fib.{fib_outputs, contents_of, outcome_of, fib_outcome}
 
 -- an outcome fits the job where it is within the limit
 abbrev pub FitsWithin : Job → Outcome → Type 0
@@ -74,3 +77,16 @@ args_status (arg ∷ other ∷ others) = none_status
 
 pub fail_fits : (job : Job) → Fits job (fail_outcome job)
 fail_fits job = of_choice IsStatus (length job.outputs == 1) _ _ (λ _. args_status job.args) none_status
+
+contents_fit : (job : Job) (asked : Asked) → 3 ≡ length job.outputs → FitsWithin job (Done (contents_of asked))
+contents_fit job asked three =
+    of_choice (λ contents. FitsWithin job (Done contents)) (nat_le asked.number 1) _ _ (λ _ within. (three, within)) (λ within. (three, within))
+
+asked_fits : (job : Job) (asked : Option Asked) → 3 ≡ length job.outputs → FitsWithin job (outcome_of asked)
+asked_fits job None three = bad_form job
+asked_fits job (Some asked) three = contents_fit job asked three
+
+pub fib_fits : (job : Job) → FitsWithin job (fib_outcome job)
+fib_fits job =
+    of_choice (λ asked. FitsWithin job (outcome_of asked)) (pointwise bytes_eq job.outputs fib_outputs) _ _
+    (λ same. asked_fits job _ (sym (as_long bytes_eq job.outputs fib_outputs same))) (bad_form job)

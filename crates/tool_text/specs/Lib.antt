@@ -3,3 +3,4 @@ pub mod Limit
 pub mod Cat
 pub mod Fail
 pub mod Add
+pub mod Fib

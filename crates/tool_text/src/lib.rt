@@ -4,6 +4,8 @@
 mod add_tool;
 mod cat_tool;
 mod fail_tool;
+mod fib_thunks;
+mod fib_tool;
 pub mod laws;
 mod numbers;
 mod status;
@@ -11,3 +13,4 @@ mod status;
 pub use add_tool::add;
 pub use cat_tool::cat;
 pub use fail_tool::fail;
+pub use fib_tool::fib;
