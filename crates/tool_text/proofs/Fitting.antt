@@ -6,7 +6,7 @@ use Rattle.std.specs.Cmp.Lexicographic.{pointwise, as_long}
 use Rattle.object_name.specs.Number.{number_of}
 use Rattle.thunk_codec.specs.declared.job.Job.{Job}
 use Rattle.thunk_codec.specs.declared.job.Outcome.{Outcome}
-use Rattle.thunk_codec.specs.declared.job.Outcome.TheVariants.{Failed}
+use Rattle.thunk_codec.specs.declared.job.Outcome.TheVariants.{Done, Failed}
 use Rattle.thunk_codec.specs.Outcome.{Fits}
 use Rattle.thunk_codec.specs.Maybe.{◌>>=◌}
 use Rattle.tool_text.specs.declared.fib_thunks.Asked.{Asked}

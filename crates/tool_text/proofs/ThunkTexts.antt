@@ -1,5 +1,5 @@
 -- What is appended piece by piece is the text of a thunk, and is short.
-use Rattle.std.proofs.Common.{◌≡◌, ℕ, ◌+◌, ◌^◌, ◌<◌, ◌≤◌, List, [], ◌∷◌, ◌++◌, length, refl, sym, ap, ◌∙◌, append_assoc, append-nil, length-append, arith}
+use Rattle.std.proofs.Common.{◌≡◌, ℕ, ◌^◌, ◌<◌, ◌≤◌, List, [], ◌∷◌, ◌++◌, length, sym, ap, ◌∙◌, append_assoc, append-nil, length-append, arith}
 use Rattle.std.specs.Prelude.{codes, decimal}
 use Rattle.std.proofs.lemmas.Fmt.{length-decimal-le, decimal_digit}
 use Rattle.object_name.specs.Name.{ObjectName, IsName, max_size, spelling}
@@ -37,9 +37,9 @@ in_line a b c d e f g t0 t1 t2 t3 t4 t5 t6 h0 h1 h2 h3 h4 h5 h6 =
     h6 ∙ ap (λ (v : List ℕ). v ++ g) (h5 ∙ ap (λ (v : List ℕ). v ++ f) (h4 ∙ ap (λ (v : List ℕ). v ++ e) (h3 ∙ ap (λ (v : List ℕ). v ++ d)
     (h2 ∙ ap (λ (v : List ℕ). v ++ c) (h1 ∙ ap (λ (v : List ℕ). v ++ b) h0)))))
     ∙ joined a b c d e f g
-    where
-      joined : (a b c d e f g : List ℕ) → (((((a ++ b) ++ c) ++ d) ++ e) ++ f) ++ g ≡ a ++ (b ++ (c ++ (d ++ (e ++ (f ++ g)))))
-      joined a b c d e f g = simp append_assoc
+  where
+    joined : (a b c d e f g : List ℕ) → (((((a ++ b) ++ c) ++ d) ++ e) ++ f) ++ g ≡ a ++ (b ++ (c ++ (d ++ (e ++ (f ++ g)))))
+    joined a b c d e f g = simp append_assoc
 
 -- a line that was alone, in front of others
 ended : (said others : List ℕ) → ((said ++ 10 ∷ []) ++ []) ++ others ≡ said ++ 10 ∷ others
@@ -77,10 +77,10 @@ sum_output_line = codes "o 3:out" ++ 10 ∷ codes "end" ++ 10 ∷ []
 two_inputs : (left right others : List ℕ) → (((left ++ codes "#0") ++ 10 ∷ []) ++ (codes "i 1:b " ++ (((right ++ codes "#0") ++ 10 ∷ []) ++ []))) ++ others
     ≡ left ++ (before_second ++ (right ++ (codes "#0" ++ 10 ∷ others)))
 two_inputs left right others = parts left (codes "#0") (10 ∷ []) (codes "i 1:b ") right others
-    where
-      parts : (left place feed mark right others : List ℕ) → (((left ++ place) ++ feed) ++ (mark ++ (((right ++ place) ++ feed) ++ []))) ++ others
-          ≡ left ++ (place ++ (feed ++ (mark ++ (right ++ (place ++ (feed ++ others))))))
-      parts left place feed mark right others = simp (append_assoc, append-nil)
+  where
+    parts : (left place feed mark right others : List ℕ) → (((left ++ place) ++ feed) ++ (mark ++ (((right ++ place) ++ feed) ++ []))) ++ others
+        ≡ left ++ (place ++ (feed ++ (mark ++ (right ++ (place ++ (feed ++ others))))))
+    parts left place feed mark right others = simp (append_assoc, append-nil)
 
 sum_in_line : (add left right zero one three : List ℕ) → zero ≡ codes "0" → one ≡ codes "1" → three ≡ codes "3"
     → sum_lines add left right zero one three ≡ front ++ (add ++ (before_first ++ (left ++ (before_second ++ (right ++ sum_end)))))
@@ -124,7 +124,7 @@ length-counted n fits =
 pub fib_is_short : (asked : Asked) (n : ℕ) (text : List ℕ) → n < 2 ^ 64 → IsName asked.function → IsName asked.add → text ≡ text_of (fib_thunk asked n) → length text ≤ max_size
 fib_is_short asked n text fits function add is =
     let whole : length text ≡ length (front ++ (spelling asked.function ++ (before_number ++ (counted (decimal n) ++ (before_input ++ (spelling asked.add ++ fib_end))))))
-        = ap length (is ∙ fib_text_is asked n) in
+    = ap length (is ∙ fib_text_is asked n) in
     let a = length-append (spelling asked.function) (before_number ++ (counted (decimal n) ++ (before_input ++ (spelling asked.add ++ fib_end)))) in
     let b = length-append (counted (decimal n)) (before_input ++ (spelling asked.add ++ fib_end)) in
     let d = length-append (spelling asked.add) fib_end in

@@ -14,3 +14,6 @@ pub use add_tool::add;
 pub use cat_tool::cat;
 pub use fail_tool::fail;
 pub use fib_tool::fib;
+
+#[cfg(test)]
+mod tests;
