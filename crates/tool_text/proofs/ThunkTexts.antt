@@ -129,3 +129,11 @@ fib_is_short asked n text fits function add is =
     let b = length-append (counted (decimal n)) (before_input ++ (spelling asked.add ++ fib_end)) in
     let d = length-append (spelling asked.add) fib_end in
     omega (arith, whole, a, b, d, length-spelling asked.function function, length-spelling asked.add add, length-counted n fits)
+
+pub sum_is_short : (asked : Asked) (left right : ObjectName) → IsName asked.add → IsName left → IsName right → length (text_of (sum_thunk asked left right)) ≤ max_size
+sum_is_short asked left right add first second =
+    let whole = ap length (sum_text_is asked left right) in
+    let a = length-append (spelling asked.add) (before_first ++ (spelling left ++ (before_second ++ (spelling right ++ sum_end)))) in
+    let b = length-append (spelling left) (before_second ++ (spelling right ++ sum_end)) in
+    let d = length-append (spelling right) sum_end in
+    omega (arith, whole, a, b, d, length-spelling asked.add add, length-spelling left first, length-spelling right second)
