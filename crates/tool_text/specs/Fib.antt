@@ -91,5 +91,6 @@ abbrev pub outcome_of : Option Asked → Outcome
 outcome_of None = Failed 64
 outcome_of (Some asked) = Done (contents_of asked)
 
+-- the outcome of a job
 abbrev pub fib_outcome : Job → Outcome
 fib_outcome job = outcome_of (asked_of job)
