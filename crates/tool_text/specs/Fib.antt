@@ -1,0 +1,96 @@
+-- The card `fib`: a Fibonacci number, as the thunk that adds the two before it.
+use Rattle.std.specs.Prelude.{ℕ, ◌-◌, List, [], ◌∷◌, nat_eq, nat_le, not, length, codes, decimal, bytes_eq, Option, Some, None, if◌then◌else◌}
+use Rattle.std.specs.List.{starts_with}
+use Rattle.std.specs.Cmp.Lexicographic.{pointwise}
+use Rattle.object_name.specs.Kind.{thunk_mark}
+use Rattle.object_name.specs.Name.{ObjectName, max_size, name_of}
+use Rattle.object_name.specs.Number.{number_of}
+use Rattle.thunk_codec.specs.declared.job.Job.{Job}
+use Rattle.thunk_codec.specs.declared.job.Outcome.{Outcome}
+use Rattle.thunk_codec.specs.declared.job.Outcome.TheVariants.{Done, Failed}
+use Rattle.thunk_codec.specs.declared.reference.Ref.TheVariants.{Value, Out}
+use Rattle.thunk_codec.specs.Maybe.{◌>>=◌, ◌>>◌, check}
+use Rattle.thunk_codec.specs.Thunk.{Parts, text_of}
+use Rattle.tool_text.specs.declared.fib_thunks.Asked.{Asked}
+use Rattle.tool_text.specs.Numbers.{number_line}
+
+-- the outputs
+abbrev pub fib_outputs : List (List ℕ)
+fib_outputs = codes "out" ∷ codes "left" ∷ codes "right" ∷ []
+
+-- the number that a text says, a canonical decimal number of 0 to 93
+abbrev pub place_in : List ℕ → Option ℕ
+place_in text = do
+  n ← number_of text
+  check (nat_le n 93)
+  Some n
+
+-- the number that the arguments say: there is one argument
+abbrev pub place_of : List (List ℕ) → Option ℕ
+place_of [] = None
+place_of (arg ∷ []) = place_in arg
+place_of (arg ∷ other ∷ others) = None
+
+-- the name of a value: of bytes that are no thunk's and within the size of an object
+abbrev pub value_name : List ℕ → Option ObjectName
+value_name bytes = do
+  check (nat_le (length bytes) max_size)
+  check (not (starts_with nat_eq bytes thunk_mark))
+  Some (name_of bytes)
+
+-- the name of the input `add`: there is no other input
+abbrev pub add_name : List (List ℕ × List ℕ) → Option ObjectName
+add_name [] = None
+add_name (input ∷ []) = do
+  check (bytes_eq input.0 (codes "add"))
+  value_name input.1
+add_name (input ∷ other ∷ others) = None
+
+-- what a job asks for, where its outputs, argument, function and input are of this form
+abbrev pub asked_of : Job → Option Asked
+asked_of job = do
+  check (pointwise bytes_eq job.outputs fib_outputs)
+  n ← place_of job.args
+  function ← value_name job.function
+  add ← add_name job.inputs
+  Some (record { number = n; function = function; add = add })
+
+-- the job's own thunk with another number
+abbrev pub fib_thunk : Asked → ℕ → Parts
+fib_thunk asked n = record {
+  function = Value asked.function;
+  args = decimal n ∷ [];
+  envs = [];
+  inputs = (codes "add", Value asked.add) ∷ [];
+  outputs = fib_outputs;
+}
+
+-- the sum of the first outputs of two thunks
+abbrev pub sum_thunk : Asked → ObjectName → ObjectName → Parts
+sum_thunk asked left right = record {
+  function = Value asked.add;
+  args = [];
+  envs = [];
+  inputs = (codes "a", Out left 0) ∷ (codes "b", Out right 0) ∷ [];
+  outputs = codes "out" ∷ [];
+}
+
+-- the sum of the two numbers before the one that is asked for, and the thunks of these two
+abbrev pub thunk_texts : Asked → List (List ℕ)
+thunk_texts asked =
+    let left = text_of (fib_thunk asked (asked.number - 1)) in
+    let right = text_of (fib_thunk asked (asked.number - 2)) in
+    text_of (sum_thunk asked (name_of left) (name_of right)) ∷ left ∷ right ∷ []
+
+-- the numbers 0 and 1 are their own, and the others are sums
+abbrev pub contents_of : Asked → List (List ℕ)
+contents_of asked = if nat_le asked.number 1 then number_line asked.number ∷ [] ∷ [] ∷ [] else thunk_texts asked
+
+-- status 64 where nothing is asked for
+abbrev pub outcome_of : Option Asked → Outcome
+outcome_of None = Failed 64
+outcome_of (Some asked) = Done (contents_of asked)
+
+-- the outcome of a job
+abbrev pub fib_outcome : Job → Outcome
+fib_outcome job = outcome_of (asked_of job)

@@ -1,0 +1,19 @@
+//! The cards that work on bytes and numbers: each a function of its job.
+#![tactic(auto)]
+
+mod add_tool;
+mod cat_tool;
+mod fail_tool;
+mod fib_thunks;
+mod fib_tool;
+pub mod laws;
+mod numbers;
+mod status;
+
+pub use add_tool::add;
+pub use cat_tool::cat;
+pub use fail_tool::fail;
+pub use fib_tool::fib;
+
+#[cfg(test)]
+mod tests;
