@@ -1,7 +1,2 @@
 pub mod WritingLemmas
-pub mod ForcingLemmas
 pub mod PrintingLemmas
-pub mod TopLemmas
-pub mod WordLemmas
-pub mod Repeats
-pub mod Meeting
