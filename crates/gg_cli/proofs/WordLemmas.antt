@@ -86,7 +86,7 @@ module _ {X : Type 0} (bytes : X → List ℕ) (words : List X) (index : ℕ) (i
   -- the refusal of a word is that of the words
   pub ReadsItems-refused : {T : Type 0} (word : X) → index < length words → word ≡ get_or words index word → (fault : WordFault) → Refuses fault (item_of (bytes word))
       → (result : Result T WordFault) → IsErr result × IsErrAnd result (λ other. other ≡ fault) → (wanted : Option T) → (items_in (map bytes words) ≡ None → wanted ≡ None) → Finds result wanted
-  ReadsItems-refused word lt at fault refuses (Ok found) is wanted none = absurd is.0
+  ReadsItems-refused word lt at fault refuses (Ok found) is wanted none = absurd is.1
   ReadsItems-refused word lt at Usage refuses (Err other) is wanted none = rw is.1 (none (ReadsItems-stop word lt at refuses))
   ReadsItems-refused word lt at Memory refuses (Err other) is wanted none = rw is.1 tt
 

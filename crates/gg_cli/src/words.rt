@@ -264,6 +264,7 @@ fn read_force(alloc: Global, words: &[String]) -> Result<Command, WordFault>
 }
 
 /// The command that some words are.
+#[tactic(auto, unfolding(crate::specs::Words::command_of))]
 pub fn read_words(alloc: Global, words: &[String]) -> Result<Command, WordFault>
     ensures exact { Finds result (command_of (map string_bytes words.now)) }
     ensures found { IfOk result (λ command. command_of (map string_bytes words.now) ≡ Some command) }
