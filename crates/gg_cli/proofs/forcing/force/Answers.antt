@@ -1,4 +1,5 @@
-use Rattle.std.proofs.Common.{rules}
+use Rattle.std.proofs.Common.{List, rules}
+use Rattle.thunk_codec.specs.declared.reference.Ref.{Ref}
 use Rattle.gg_cli.specs.Faults.{fault_status}
 use Rattle.gg_cli.proofs.EndingLemmas.{Ends-handed, EndCause-handed, EndCause-within, TopCause-kept}
 use Rattle.gg_cli.proofs.ForcingLemmas.{want_ends, want_cause, values_end, hands_end}
@@ -9,7 +10,7 @@ returns-in_err-refs-clause-ends g c kept files =
     Ends-handed _ _ _ _ c.from_residual.ensures (want_ends _ _ _ _ _ (c.wanted.ensures.same files) _ _ _ (c.in_err-refs.ensures.exact files))
 
 pub returns-in_err-refs-clause-cause : goal.returns-in_err-refs-clause-cause
-returns-in_err-refs-clause-cause g c = EndCause-handed _ _ _ _ c.from_residual.ensures (want_cause _ _ _ _ c.in_err-refs.ensures.cause)
+returns-in_err-refs-clause-cause g c = EndCause-handed _ _ _ _ c.from_residual.ensures (want_cause (List Ref) _ _ _ c.in_err-refs.ensures.cause)
 
 pub returns-in_err-names-clause-ends : goal.returns-in_err-names-clause-ends
 returns-in_err-names-clause-ends g c kept files =
@@ -22,7 +23,7 @@ returns-in_err-names-clause-cause g c =
 
 pub returns-clause-ends : goal.returns-clause-ends
 returns-clause-ends g c kept files =
-    hands_end _ _ _ _ _ _ (c.wanted.ensures.same files) _ _ (c.in_ok-refs.ensures.exact files) _ _ _ _ _ _ (c.in_ok-names.ensures.values kept) (c.hand_out.ensures.ends kept files)
+    hands_end _ _ _ _ _ _ (c.wanted.ensures.same files) _ _ (c.in_ok-refs.ensures.exact files) _ _ _ _ _ _ (c.in_ok-names.ensures.values kept) (rw c.as_slice.ensures at c.hand_out.ensures.ends kept files)
 
 pub returns-clause-cause : goal.returns-clause-cause
 returns-clause-cause g c =

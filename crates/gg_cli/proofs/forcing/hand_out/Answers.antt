@@ -5,10 +5,10 @@ use Rattle.gg_cli.proofs.forcing.hand_out.Goals as goal
 
 pub returns-in_err-write_files-clause-ends : goal.returns-in_err-write_files-clause-ends
 returns-in_err-write_files-clause-ends g c kept files before writes made =
-    Ends-handed _ _ _ _ c.from_residual.ensures (filing_ends writes _ before _ (c.write_files.ensures.same kept ∙ made) _ _ _ _ _ _ (c.in_err-write_files.ensures.filed kept files))
+    Ends-handed _ _ _ _ c.from_residual.ensures (filing_ends writes _ before _ (c.write_files.ensures.same kept ∙ made) _ _ _ (Unit {0}) _ _ (c.in_err-write_files.ensures.filed kept files))
 
 pub returns-in_err-write_files-clause-cause : goal.returns-in_err-write_files-clause-cause
-returns-in_err-write_files-clause-cause g c = EndCause-handed _ _ _ _ c.from_residual.ensures (filing_cause _ _ _ _ c.in_err-write_files.ensures.cause)
+returns-in_err-write_files-clause-cause g c = EndCause-handed _ _ _ _ c.from_residual.ensures (filing_cause (Unit {0}) _ _ _ c.in_err-write_files.ensures.cause)
 
 pub returns-in-Ok-clause-ends : goal.returns-in-Ok-clause-ends
 returns-in-Ok-clause-ends g c kept files before writes made =
