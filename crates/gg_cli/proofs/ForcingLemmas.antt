@@ -142,10 +142,13 @@ module _ (writes : List Write) (text : List ℕ) (before after : Store) (made : 
   printed_failed T e h = rw all.is_missing (record { comes = record { done = refl; all = record { after = made; files = all.files }; text = h.front }; line = refl })
 
   pub printed_part : (T : Type 0) (e : Trouble) → Writes {T = T} text b c f g (Err e) → EndsAt (filed_by writes filing.changes text filing.missing) (handed before after files_before files_after b c) tops.Memory
-  printed_part T e h = rw all.is_missing (record { comes = record {
-    front = inr (record { after = made; front = filing.changes; is_front = record { rest = []; whole = sym (append-nil filing.changes) }; files = all.files });
-    text = h.front;
-  }; line = refl })
+  printed_part T e h = rw all.is_missing (record {
+    comes = record {
+      front = inr (record { after = made; front = filing.changes; is_front = record { rest = []; whole = sym (append-nil filing.changes) }; files = all.files });
+      text = h.front;
+    };
+    line = refl;
+  })
 
 -- ---- the items
 

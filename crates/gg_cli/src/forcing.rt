@@ -68,8 +68,13 @@ fn hand_out<K: Keeper, T: Tree, O: Sink>(
 ) -> Result<(), TopFault>
     ensures ends { K.tells → T.tells → HandsOut names.now items.now (K.store keeper.old) (K.store keeper.new) (T.files tree.old) (T.files tree.new) (O.written out.old) (O.written out.new) result }
     ensures cause { EndCause retries (record {
-        kept_before = K.faults keeper.old; kept_after = K.faults keeper.new; files_before = T.faults tree.old; files_after = T.faults tree.new;
-        out_before = O.faults out.old; out_after = O.faults out.new }) result }
+      kept_before = K.faults keeper.old;
+      kept_after = K.faults keeper.new;
+      files_before = T.faults tree.old;
+      files_after = T.faults tree.new;
+      out_before = O.faults out.old;
+      out_after = O.faults out.new;
+    }) result }
     ensures kept_later { K.faults keeper.old ≤ K.faults keeper.new }
     ensures files_later { T.faults tree.old ≤ T.faults tree.new }
     ensures no_usage { result ≢ Err TopFault.Usage }
@@ -94,11 +99,22 @@ pub(crate) fn force<K: Keeper, T: Tree, O: Sink>(
 ) -> Result<(), TopFault>
     requires { All IsItem items.now }
     ensures ends { K.tells → T.tells → Ends (wanted_forced budget items.now (K.store keeper.old) (wanted_of (T.files tree.old) items.now))
-        (record { before = K.store keeper.old; after = K.store keeper.new; files_before = T.files tree.old; files_after = T.files tree.new;
-            out_before = O.written out.old; out_after = O.written out.new }) result }
+        (record {
+          before = K.store keeper.old;
+          after = K.store keeper.new;
+          files_before = T.files tree.old;
+          files_after = T.files tree.new;
+          out_before = O.written out.old;
+          out_after = O.written out.new;
+        }) result }
     ensures cause { EndCause retries (record {
-        kept_before = K.faults keeper.old; kept_after = K.faults keeper.new; files_before = T.faults tree.old; files_after = T.faults tree.new;
-        out_before = O.faults out.old; out_after = O.faults out.new }) result }
+      kept_before = K.faults keeper.old;
+      kept_after = K.faults keeper.new;
+      files_before = T.faults tree.old;
+      files_after = T.faults tree.new;
+      out_before = O.faults out.old;
+      out_after = O.faults out.new;
+    }) result }
     ensures no_usage { result ≢ Err TopFault.Usage }
 {
     let refs = wanted(alloc, tree, items, retries)?;

@@ -27,11 +27,22 @@ fn do_command<K: Keeper, T: Tree, O: Sink>(
 ) -> Result<(), TopFault>
     requires { IsCommand command.now }
     ensures ends { K.tells → T.tells → Ends (answer_of_command (Some command.now) (K.store keeper.old) (T.files tree.old))
-        (record { before = K.store keeper.old; after = K.store keeper.new; files_before = T.files tree.old; files_after = T.files tree.new;
-            out_before = O.written out.old; out_after = O.written out.new }) result }
+        (record {
+          before = K.store keeper.old;
+          after = K.store keeper.new;
+          files_before = T.files tree.old;
+          files_after = T.files tree.new;
+          out_before = O.written out.old;
+          out_after = O.written out.new;
+        }) result }
     ensures cause { EndCause (retries_in (Some command.now)) (record {
-        kept_before = K.faults keeper.old; kept_after = K.faults keeper.new; files_before = T.faults tree.old; files_after = T.faults tree.new;
-        out_before = O.faults out.old; out_after = O.faults out.new }) result }
+      kept_before = K.faults keeper.old;
+      kept_after = K.faults keeper.new;
+      files_before = T.faults tree.old;
+      files_after = T.faults tree.new;
+      out_before = O.faults out.old;
+      out_after = O.faults out.new;
+    }) result }
     ensures no_usage { result ≢ Err TopFault.Usage }
 {
     match command {
@@ -60,11 +71,22 @@ fn obey<K: Keeper, T: Tree, O: Sink>(
     out: &mut O,
 ) -> Result<(), TopFault>
     ensures ends { K.tells → T.tells → Ends (answer_of (map string_bytes words.now) (K.store keeper.old) (T.files tree.old))
-        (record { before = K.store keeper.old; after = K.store keeper.new; files_before = T.files tree.old; files_after = T.files tree.new;
-            out_before = O.written out.old; out_after = O.written out.new }) result }
+        (record {
+          before = K.store keeper.old;
+          after = K.store keeper.new;
+          files_before = T.files tree.old;
+          files_after = T.files tree.new;
+          out_before = O.written out.old;
+          out_after = O.written out.new;
+        }) result }
     ensures cause { EndCause (retries_in (command_of (map string_bytes words.now))) (record {
-        kept_before = K.faults keeper.old; kept_after = K.faults keeper.new; files_before = T.faults tree.old; files_after = T.faults tree.new;
-        out_before = O.faults out.old; out_after = O.faults out.new }) result }
+      kept_before = K.faults keeper.old;
+      kept_after = K.faults keeper.new;
+      files_before = T.faults tree.old;
+      files_after = T.faults tree.new;
+      out_before = O.faults out.old;
+      out_after = O.faults out.new;
+    }) result }
     ensures usage { result ≡ Err TopFault.Usage → command_of (map string_bytes words.now) ≡ None }
     ensures no_command { command_of (map string_bytes words.now) ≡ None → (result ≡ Err TopFault.Usage) ⊎ (result ≡ Err TopFault.Memory) }
 {
@@ -87,14 +109,25 @@ pub fn gg_top<K: Keeper, T: Tree, O: Sink, E: Sink>(
 ) -> Status
     // Where the keeper and the tree tell, all is as the answer by the definition has it, or a fault stopped it after a front.
     ensures exact { K.tells → T.tells → Comes (answer_of (map string_bytes words.now) (K.store keeper.old) (T.files tree.old))
-        (record { before = K.store keeper.old; after = K.store keeper.new; files_before = T.files tree.old; files_after = T.files tree.new;
-            out_before = O.written out.old; out_after = O.written out.new }) result }
+        (record {
+          before = K.store keeper.old;
+          after = K.store keeper.new;
+          files_before = T.files tree.old;
+          files_after = T.files tree.new;
+          out_before = O.written out.old;
+          out_after = O.written out.new;
+        }) result }
     ensures said { K.tells → T.tells → Says (answer_of (map string_bytes words.now) (K.store keeper.old) (T.files tree.old)) result
         (E.written err.old) (E.written err.new) (E.faults err.old) (E.faults err.new) }
     // A fault comes only where a count rose, by more than the retries where calls are tried again, whatever is told.
     ensures cause { TopCause (retries_in (command_of (map string_bytes words.now))) (record {
-        kept_before = K.faults keeper.old; kept_after = K.faults keeper.new; files_before = T.faults tree.old; files_after = T.faults tree.new;
-        out_before = O.faults out.old; out_after = O.faults out.new }) result }
+      kept_before = K.faults keeper.old;
+      kept_after = K.faults keeper.new;
+      files_before = T.faults tree.old;
+      files_after = T.faults tree.new;
+      out_before = O.faults out.old;
+      out_after = O.faults out.new;
+    }) result }
     // Words that are no command line, and no others, are a usage fault, unless memory runs out.
     ensures usage { result ≡ Status.Usage → command_of (map string_bytes words.now) ≡ None }
     ensures no_command { command_of (map string_bytes words.now) ≡ None → (result ≡ Status.Usage) ⊎ (result ≡ Status.Memory) }
