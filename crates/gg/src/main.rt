@@ -1,7 +1,8 @@
-//! The program gg: makes the store, the outputs and the words real, and hands them to the call that does the work.
+//! The program gg: makes the store, the tree, the outputs and the words real, and hands them to the call that does the work.
 #![tactic(auto)]
 
 use blob_store::FolderKeeper;
+use file_tree::FolderTree;
 use gg_cli::{Status, gg_top};
 use object_name::{Sink, WriteSink, write_all};
 use std::alloc::AllocError;
@@ -11,6 +12,9 @@ use std::{env, io};
 
 /// The folder of the store, in the current folder.
 const STORE: &str = ".gg";
+
+/// The current folder, whose files are the tree.
+const FOLDER: &str = ".";
 
 /// The words after the program's own. Words that aren't text are no command line, as no words are.
 fn words(rt: &HostRuntime) -> Result<Vec<String>, AllocError> {
@@ -32,9 +36,11 @@ fn run<E: Sink>(rt: &HostRuntime, err: &mut E) -> Result<Status, AllocError> {
     let alloc = rt.alloc();
     let words = words(rt)?;
     let mut keeper = FolderKeeper::new(alloc, HostRuntime::clone(rt)?, STORE)?;
+    let mut tree = FolderTree::new(alloc, HostRuntime::clone(rt)?, FOLDER)?;
     let stdout = rt.stdout();
     let mut out = WriteSink::new(io::writer(&stdout));
-    Ok(gg_top(alloc, words.as_slice(), &mut keeper, &mut out, err))
+    let words = words.as_slice();
+    Ok(gg_top(alloc, words, &mut keeper, &mut tree, &mut out, err))
 }
 
 fn main(rt: HostRuntime) -> ExitCode {

@@ -1,7 +1,7 @@
 pub mod WritingLemmas
-pub mod ForcingLemmas
 pub mod PrintingLemmas
-pub mod TopLemmas
 pub mod WordLemmas
-pub mod Repeats
-pub mod Meeting
+pub mod FilingLemmas
+pub mod EndingLemmas
+pub mod ForcingLemmas
+pub mod TopLemmas

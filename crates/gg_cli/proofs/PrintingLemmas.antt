@@ -5,7 +5,7 @@ use Rattle.std.specs.Io.KnownBytes.{Appends}
 use Rattle.std.proofs.KnownBytes.{Appends-trans}
 use Rattle.object_name.specs.Name.{ObjectName}
 use Rattle.object_name.specs.declared.trouble.Trouble.{Trouble}
-use Rattle.thunk_codec.specs.declared.reference.Ref.{Ref}
+use Rattle.file_tree.specs.declared.item.Item.{Item}
 use Rattle.gg_cli.specs.Texts.{value_line, value_lines}
 use Rattle.gg_cli.specs.Writing.{Writes}
 use Rattle.gg_cli.proofs.WritingLemmas.{Writes-then, Writes-stop}
@@ -32,13 +32,13 @@ Printed-all {text = text} {b = b} {m = m} {f = f} {g = g} v h none =
     subst (λ t. Writes t b m f g (Ok v)) same (Printed-part v h)
 
 -- no line is left where the names or the items have ended
-pub value_lines-end : (names : List ObjectName) (items : List Ref) → (length names ≡ 0) ⊎ (length items ≡ 0) → value_lines names items ≡ []
+pub value_lines-end : (names : List ObjectName) (items : List Item) → (length names ≡ 0) ⊎ (length items ≡ 0) → value_lines names items ≡ []
 value_lines-end [] items h = refl
 value_lines-end (name ∷ names) [] h = refl
 value_lines-end (name ∷ names) (item ∷ items) (inl h) = absurd (omega (arith, h))
 value_lines-end (name ∷ names) (item ∷ items) (inr h) = absurd (omega (arith, h))
 
-module _ (names more_names : List ObjectName) (items more_items : List Ref) (name : ObjectName) (item : Ref) (text : List ℕ) (b m a : Option (List ℕ)) (f g h : ℕ)
+module _ (names more_names : List ObjectName) (items more_items : List Item) (name : ObjectName) (item : Item) (text : List ℕ) (b m a : Option (List ℕ)) (f g h : ℕ)
     (names_are : names ≡ name ∷ more_names) (items_are : items ≡ item ∷ more_items) (printed : Printed text (value_lines names items) b m f g) where
   -- the next line and those behind it
   next_line : value_lines names items ≡ value_line name item ++ value_lines more_names more_items

@@ -1,103 +1,98 @@
 -- Reading words, one after another.
-use Rattle.std.proofs.Common.{◌≡◌, ℕ, ◌+◌, ◌<◌, ◌≤◌, List, [], ◌∷◌, ◌++◌, length, map, drop, get_or, true, false, Option, Some, None, Result, Ok, Err, IsErrOf, inl, inr, refl, sym, ap, ◌∙◌, append_assoc, append-nil, arith}
-use Rattle.std.specs.Prelude.{IfOk, bytes_eq, codes}
-use Rattle.std.proofs.lemmas.Bool.{cases_Bool}
+use Rattle.std.proofs.Common.{◌≡◌, ℕ, ◌+◌, ◌<◌, ◌≤◌, List, [], ◌∷◌, ◌++◌, length, map, drop, get_or, true, false, Option, Some, None, Result, Ok, Err, IsErr, IsErrAnd, IsErrOf, refl, sym, ap, ◌∙◌, append_assoc, append-nil}
+use Rattle.std.specs.Prelude.{IfOk, nat_eq, codes}
+use Rattle.std.specs.List.{starts_with}
 use Rattle.std.proofs.lemmas.List.{drop_more, drop_all}
 use Rattle.thunk_codec.specs.declared.reference.Ref.{Ref}
 use Rattle.thunk_codec.specs.Maybe.{◌>>=◌}
+use Rattle.thunk_codec.specs.Path.{path_of}
 use Rattle.thunk_codec.specs.Reference.{ref_of}
+use Rattle.file_tree.specs.declared.item.Item.{Item}
+use Rattle.file_tree.specs.declared.item.Item.TheVariants.{File, Bare}
 use Rattle.gg_cli.specs.declared.words.WordFault.{WordFault}
 use Rattle.gg_cli.specs.declared.words.WordFault.TheVariants.{Usage, Memory}
-use Rattle.gg_cli.specs.Words.{refs_in, local_of, command_of}
-use Rattle.gg_cli.specs.Reading.{Finds}
+use Rattle.gg_cli.specs.Words.{item_by, item_of, items_in}
+use Rattle.gg_cli.specs.Reading.{Refuses, Finds}
+
+-- ---- one item
+
+pub item_of-option : (word : List ℕ) → starts_with nat_eq word (codes "-") ≡ true → item_of word ≡ None
+unfolding item_of
+item_of-option word is = rw is refl
+
+item_of-other : (word : List ℕ) → starts_with nat_eq word (codes "-") ≡ false → item_of word ≡ item_by word (ref_of word)
+unfolding item_of
+item_of-other word is = rw is refl
+
+pub item_of-ref : (word : List ℕ) (ref : Ref) → starts_with nat_eq word (codes "-") ≡ false → ref_of word ≡ Some ref → item_of word ≡ Some (Bare ref)
+item_of-ref word ref other is = item_of-other word other ∙ ap (item_by word) is
+
+pub item_of-path : (word path : List ℕ) → starts_with nat_eq word (codes "-") ≡ false → ref_of word ≡ None → path_of word ≡ Some path → item_of word ≡ Some (File path)
+item_of-path word path other no_ref is = item_of-other word other ∙ ap (item_by word) no_ref ∙ rw is refl
+
+pub item_of-none : (word : List ℕ) → starts_with nat_eq word (codes "-") ≡ false → ref_of word ≡ None → path_of word ≡ None → item_of word ≡ None
+item_of-none word other no_ref is = item_of-other word other ∙ ap (item_by word) no_ref ∙ rw is refl
+
+-- ---- the items
 
 -- what else is found stands behind these items
-abbrev pub behind : List Ref → Option (List Ref) → Option (List Ref)
+abbrev pub behind : List Item → Option (List Item) → Option (List Item)
 behind items None = None
 behind items (Some others) = Some (items ++ others)
 
 -- these items are read, and what is left isn't
-abbrev pub ReadsRefs : List (List ℕ) → List Ref → List (List ℕ) → Type 0
-ReadsRefs words items left = refs_in words ≡ behind items (refs_in left)
+abbrev pub ReadsItems : List (List ℕ) → List Item → List (List ℕ) → Type 0
+ReadsItems words items left = items_in words ≡ behind items (items_in left)
 
-behind_none : (found : Option (List Ref)) → found ≡ behind [] found
+behind_none : (found : Option (List Item)) → found ≡ behind [] found
 behind_none None = refl
 behind_none (Some others) = refl
 
-behind_more : (items : List Ref) (item : Ref) (found : Option (List Ref)) → behind items (found >>= λ others. Some (item ∷ others)) ≡ behind (items ++ item ∷ []) found
+behind_more : (items : List Item) (item : Item) (found : Option (List Item)) → behind items (found >>= λ others. Some (item ∷ others)) ≡ behind (items ++ item ∷ []) found
 behind_more items item None = refl
 behind_more items item (Some others) = ap Some (sym (append_assoc items (item ∷ []) others))
 
 -- the next word is the item
-next_read : (word : List ℕ) (left : List (List ℕ)) (items : List Ref) (item : Ref) → ref_of word ≡ Some item → behind items (refs_in (word ∷ left)) ≡ behind (items ++ item ∷ []) (refs_in left)
-unfolding refs_in
-next_read word left items item is = rw is (behind_more items item (refs_in left))
+next_read : (word : List ℕ) (left : List (List ℕ)) (items : List Item) (item : Item) → item_of word ≡ Some item → behind items (items_in (word ∷ left)) ≡ behind (items ++ item ∷ []) (items_in left)
+unfolding items_in
+next_read word left items item is = rw is (behind_more items item (items_in left))
 
 -- the next word is none
-next_refused : (word : List ℕ) (left : List (List ℕ)) (items : List Ref) → ref_of word ≡ None → behind items (refs_in (word ∷ left)) ≡ None
-unfolding refs_in
+next_refused : (word : List ℕ) (left : List (List ℕ)) (items : List Item) → item_of word ≡ None → behind items (items_in (word ∷ left)) ≡ None
+unfolding items_in
 next_refused word left items is = rw is refl
 
-nothing_left : (items : List Ref) → behind items (refs_in []) ≡ Some items
-unfolding refs_in
+nothing_left : (items : List Item) → behind items (items_in []) ≡ Some items
+unfolding items_in
 nothing_left items = ap Some (append-nil items)
 
 -- nothing is read yet
-pub ReadsRefs-none : (words : List (List ℕ)) → ReadsRefs words [] words
-ReadsRefs-none words = behind_none (refs_in words)
+pub ReadsItems-none : (words : List (List ℕ)) → ReadsItems words [] words
+ReadsItems-none words = behind_none (items_in words)
 
-module _ {X : Type 0} (bytes : X → List ℕ) (words : List X) (index : ℕ) (items : List Ref) (reads : ReadsRefs (map bytes words) items (map bytes (drop index words))) where
+module _ {X : Type 0} (bytes : X → List ℕ) (words : List X) (index : ℕ) (items : List Item) (reads : ReadsItems (map bytes words) items (map bytes (drop index words))) where
+  next_word : (word : X) → index < length words → word ≡ get_or words index word → map bytes (drop index words) ≡ bytes word ∷ map bytes (drop (index + 1) words)
+  next_word word lt at = ap (map bytes) (drop_more words index word lt ∙ ap (λ first. first ∷ drop (index + 1) words) (sym at))
+
   -- one word more is read
-  pub ReadsRefs-more : (word : X) (item : Ref) → index < length words → word ≡ get_or words index word → ref_of (bytes word) ≡ Some item
-      → ReadsRefs (map bytes words) (items ++ item ∷ []) (map bytes (drop (index + 1) words))
-  ReadsRefs-more word item lt at is = reads ∙ ap (λ left. behind items (refs_in left)) (ap (map bytes) (drop_more words index word lt ∙ ap (λ first. first ∷ drop (index + 1) words) (sym at)))
-      ∙ next_read (bytes word) (map bytes (drop (index + 1) words)) items item is
+  pub ReadsItems-more : (word : X) (item : Item) → index < length words → word ≡ get_or words index word → item_of (bytes word) ≡ Some item
+      → ReadsItems (map bytes words) (items ++ item ∷ []) (map bytes (drop (index + 1) words))
+  ReadsItems-more word item lt at is = reads ∙ ap (λ left. behind items (items_in left)) (next_word word lt at) ∙ next_read (bytes word) (map bytes (drop (index + 1) words)) items item is
 
-  -- a word that is no reference
-  pub ReadsRefs-stop : (word : X) → index < length words → word ≡ get_or words index word → ref_of (bytes word) ≡ None → refs_in (map bytes words) ≡ None
-  ReadsRefs-stop word lt at is = reads ∙ ap (λ left. behind items (refs_in left)) (ap (map bytes) (drop_more words index word lt ∙ ap (λ first. first ∷ drop (index + 1) words) (sym at)))
-      ∙ next_refused (bytes word) (map bytes (drop (index + 1) words)) items is
+  -- a word that is none
+  ReadsItems-stop : (word : X) → index < length words → word ≡ get_or words index word → item_of (bytes word) ≡ None → items_in (map bytes words) ≡ None
+  ReadsItems-stop word lt at is = reads ∙ ap (λ left. behind items (items_in left)) (next_word word lt at) ∙ next_refused (bytes word) (map bytes (drop (index + 1) words)) items is
+
+  -- the refusal of a word is that of the words
+  pub ReadsItems-refused : {T : Type 0} (word : X) → index < length words → word ≡ get_or words index word → (fault : WordFault) → Refuses fault (item_of (bytes word))
+      → (result : Result T WordFault) → IsErr result × IsErrAnd result (λ other. other ≡ fault) → (wanted : Option T) → (items_in (map bytes words) ≡ None → wanted ≡ None) → Finds result wanted
+  ReadsItems-refused word lt at fault refuses (Ok found) is wanted none = absurd is.1
+  ReadsItems-refused word lt at Usage refuses (Err other) is wanted none = rw is.1 (none (ReadsItems-stop word lt at refuses))
+  ReadsItems-refused word lt at Memory refuses (Err other) is wanted none = rw is.1 tt
 
   -- all words are read
-  pub ReadsRefs-all : length words ≤ index → refs_in (map bytes words) ≡ Some items
-  ReadsRefs-all le = reads ∙ ap (λ left. behind items (refs_in (map bytes left))) (drop_all index words le) ∙ nothing_left items
-
--- ---- the first two words
-
-module _ {X : Type 0} (bytes : X → List ℕ) where
-  -- too few words
-  pub command_of-short : (words : List X) → length words < 2 → command_of (map bytes words) ≡ None
-  unfolding command_of
-  command_of-short [] lt = refl
-  command_of-short (first ∷ []) lt = refl
-  command_of-short (first ∷ second ∷ words) lt = absurd (omega (arith, lt))
-
-  -- another first word
-  pub command_of-first : (words : List X) (first : X) → 2 ≤ length words → first ≡ get_or words 0 first → bytes_eq (bytes first) (codes "force") ≡ false → command_of (map bytes words) ≡ None
-  unfolding command_of
-  command_of-first [] first le at other = absurd (omega (arith, le))
-  command_of-first (one ∷ []) first le at other = absurd (omega (arith, le))
-  command_of-first (one ∷ two ∷ words) first le at other = let here : bytes_eq (bytes one) (codes "force") ≡ false = ap (λ word. bytes_eq (bytes word) (codes "force")) (sym at) ∙ other in rw here refl
-
-  -- another second word
-  pub command_of-second : (words : List X) (second : X) → 2 ≤ length words → second ≡ get_or words 1 second → bytes_eq (bytes second) (codes "--local") ≡ false → command_of (map bytes words) ≡ None
-  unfolding command_of
-  command_of-second [] second le at other = absurd (omega (arith, le))
-  command_of-second (one ∷ []) second le at other = absurd (omega (arith, le))
-  command_of-second (one ∷ two ∷ words) second le at other =
-      let here : bytes_eq (bytes two) (codes "--local") ≡ false = ap (λ word. bytes_eq (bytes word) (codes "--local")) (sym at) ∙ other in
-      rw here (elim (cases_Bool (bytes_eq (bytes one) (codes "force"))) [ inl same ↦ rw same refl | inr differs ↦ rw differs refl ])
-
-  -- the two words, and what follows them
-  pub command_of-local : (words : List X) (first second : X) → 2 ≤ length words → first ≡ get_or words 0 first → second ≡ get_or words 1 second
-      → bytes_eq (bytes first) (codes "force") ≡ true → bytes_eq (bytes second) (codes "--local") ≡ true → command_of (map bytes words) ≡ local_of (map bytes (drop 2 words))
-  unfolding command_of
-  command_of-local [] first second le first_at second_at is_force is_local = absurd (omega (arith, le))
-  command_of-local (one ∷ []) first second le first_at second_at is_force is_local = absurd (omega (arith, le))
-  command_of-local (one ∷ two ∷ words) first second le first_at second_at is_force is_local =
-      let force : bytes_eq (bytes one) (codes "force") ≡ true = ap (λ word. bytes_eq (bytes word) (codes "force")) (sym first_at) ∙ is_force in
-      let local : bytes_eq (bytes two) (codes "--local") ≡ true = ap (λ word. bytes_eq (bytes word) (codes "--local")) (sym second_at) ∙ is_local in
-      rw (force, local) refl
+  pub ReadsItems-all : length words ≤ index → items_in (map bytes words) ≡ Some items
+  ReadsItems-all le = reads ∙ ap (λ left. behind items (items_in (map bytes left))) (drop_all index words le) ∙ nothing_left items
 
 -- what was read is what is found
 pub Finds-found : {T : Type 0} (r : Result T WordFault) (wanted : Option T) → Finds r wanted → IfOk r (λ found. wanted ≡ Some found)

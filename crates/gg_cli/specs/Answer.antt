@@ -1,10 +1,13 @@
--- The answer of a command line over a store: the writes, the text, the status and the line of the fault.
-use Rattle.std.specs.Prelude.{ℕ, List, [], ◌∷◌, ◌++◌, Bool, Option, Some, None, bytes_eq, if◌then◌else◌}
-use Rattle.std.specs.List.{list_any}
+-- The answer of a command line over a store and a tree: the writes, the changes of files, the text, the status and the line of
+-- the fault.
+use Rattle.std.specs.Prelude.{ℕ, List, [], Option, Some, None, Result, Ok, Err}
 use Rattle.object_name.specs.Name.{ObjectName}
 use Rattle.thunk_codec.specs.declared.reference.Ref.{Ref}
-use Rattle.thunk_codec.specs.Reference.{ref_text}
 use Rattle.blob_store.specs.Store.{Store, Write}
+use Rattle.file_tree.specs.Files.{Files, Change}
+use Rattle.file_tree.specs.Wanted.{wanted_of}
+use Rattle.file_tree.specs.declared.item.Item.{Item}
+use Rattle.file_tree.specs.declared.refusal.FileRefusal.{FileRefusal}
 use Rattle.need_eval.specs.declared.fault.Refusal.{Refusal}
 use Rattle.need_eval.specs.declared.fault.Refusal.TheVariants as refusals
 use Rattle.need_eval.specs.Eval.{Stop, Refused, Clash, Stands, Ended, Got, Stopped, start}
@@ -15,11 +18,14 @@ use Rattle.gg_cli.specs.declared.words.Command.{Command}
 use Rattle.gg_cli.specs.declared.words.Command.TheVariants.{Force}
 use Rattle.gg_cli.specs.Words.{command_of}
 use Rattle.gg_cli.specs.Cat.{tool_outcome}
-use Rattle.gg_cli.specs.Texts.{fault_line, usage_line, stop_text, twice_text, value_lines}
+use Rattle.gg_cli.specs.Texts.{fault_line, usage_line, stop_text, refusal_text, file_text, value_lines}
+use Rattle.gg_cli.specs.Filing.{Filing, filed}
 
--- what a command line is to do: the writes in order, the status, what is printed, and the line of the fault, if there is one
+-- what a command line is to do: the writes to the store in order, then the changes of files in order, the status, what is
+-- printed, and the line of the fault, if there is one
 pub record Answer : Type 0 where
   pub writes : List Write
+  pub changes : List Change
   pub status : Status
   pub text : List ℕ
   pub line : List ℕ
@@ -39,30 +45,35 @@ stop_status (Refused refusal) = refusal_status refusal
 stop_status (Clash name found fresh) = statuses.Clash
 stop_status (Stands text job) = statuses.Memory
 
--- the answer by the end of the evaluation of the wanted references
-abbrev pub forced : List Ref → Ended (List ObjectName) → Answer
-forced wanted (Got names s) = record { writes = s.writes; status = statuses.Done; text = value_lines names wanted; line = [] }
-forced wanted (Stopped why s) = record { writes = s.writes; status = stop_status why; text = []; line = fault_line (stop_text why) }
+-- the answer where nothing is done
+abbrev pub refused : Status → List ℕ → Answer
+refused status text = record { writes = []; changes = []; status = status; text = []; line = fault_line text }
 
--- whether an item is spelled as one of these
-abbrev pub stands_in : List Ref → Ref → Bool
-stands_in earlier item = list_any (λ other. bytes_eq (ref_text other) (ref_text item)) earlier
+-- the answer by what goes to files: a value that isn't held then is a missing object
+abbrev pub filed_by : List Write → List Change → List ℕ → Option ObjectName → Answer
+filed_by writes changes text None = record { writes = writes; changes = changes; status = statuses.Done; text = text; line = [] }
+filed_by writes changes text (Some name) =
+    record { writes = writes; changes = changes; status = statuses.Missing; text = []; line = fault_line (refusal_text (refusals.Missing name)) }
 
--- the first of some items that stands before it, among them or the earlier ones
-unfoldable pub first_repeated : List Ref → List Ref → Option Ref
-first_repeated earlier [] = None
-first_repeated earlier (item ∷ items) = if stands_in earlier item then Some item else first_repeated (earlier ++ item ∷ []) items
+-- the answer where these are the values: they go to the files that wanted them, and then they are printed
+abbrev pub handed_out : List Write → List ObjectName → List Item → Filing → Answer
+handed_out writes names items filing = filed_by writes filing.changes (value_lines names items) filing.missing
 
--- the answer where the items are these: an item that stands twice is refused, and nothing is done
-abbrev pub forced_once : ℕ → List Ref → Option Ref → Store → Answer
-forced_once budget items (Some item) store = record { writes = []; status = statuses.FileRefused; text = []; line = fault_line (twice_text item) }
-forced_once budget items None store = forced items (values_of (by_function tool_outcome) budget items (start store))
+-- the answer by the end of the evaluation
+abbrev pub forced : List Item → Ended (List ObjectName) → Answer
+forced items (Got names s) = handed_out s.writes names items (filed s.store.objects names items)
+forced items (Stopped why s) = record { writes = s.writes; changes = []; status = stop_status why; text = []; line = fault_line (stop_text why) }
+
+-- the answer by the references of the items: they are evaluated, unless an item is refused
+abbrev pub wanted_forced : ℕ → List Item → Store → Result (List Ref) FileRefusal → Answer
+wanted_forced budget items store (Err refusal) = refused statuses.FileRefused (file_text refusal)
+wanted_forced budget items store (Ok refs) = forced items (values_of (by_function tool_outcome) budget refs (start store))
 
 -- the answer of a command, or of words that are none
-abbrev pub answer_of_command : Option Command → Store → Answer
-answer_of_command None store = record { writes = []; status = statuses.Usage; text = []; line = usage_line }
-answer_of_command (Some (Force budget items)) store = forced_once budget items (first_repeated [] items) store
+abbrev pub answer_of_command : Option Command → Store → Files → Answer
+answer_of_command None store files = record { writes = []; changes = []; status = statuses.Usage; text = []; line = usage_line }
+answer_of_command (Some (Force budget retries items)) store files = wanted_forced budget items store (wanted_of files items)
 
 -- the answer of some words
-unfoldable pub answer_of : List (List ℕ) → Store → Answer
-answer_of words store = answer_of_command (command_of words) store
+unfoldable pub answer_of : List (List ℕ) → Store → Files → Answer
+answer_of words store files = answer_of_command (command_of words) store files

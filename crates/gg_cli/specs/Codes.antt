@@ -1,7 +1,7 @@
 -- The exit status of the program, by how the command line ended.
 use Rattle.std.specs.Prelude.{ℕ}
 use Rattle.gg_cli.specs.declared.status.Status.{Status}
-use Rattle.gg_cli.specs.declared.status.Status.TheVariants.{Done, FunctionFailed, Usage, Missing, BadThunk, NoOutput, Spent, TooBig, FileRefused, Clash, StoreFault, ByteFault, Memory}
+use Rattle.gg_cli.specs.declared.status.Status.TheVariants.{Done, FunctionFailed, Usage, Missing, BadThunk, NoOutput, Spent, TooBig, FileRefused, Clash, StoreFault, FileFault, ByteFault, Memory}
 
 -- 0 where all is done, and a number of its own for each fault
 abbrev pub code_of : Status → ℕ
@@ -16,5 +16,6 @@ code_of TooBig = 7
 code_of FileRefused = 8
 code_of Clash = 10
 code_of StoreFault = 12
+code_of FileFault = 13
 code_of ByteFault = 14
 code_of Memory = 17

@@ -1,56 +1,73 @@
 -- When each status comes, and what it leaves, by the answer of the definition.
 use Rattle.std.specs.Prelude.{◌≡◌, ◌⊎◌, ℕ, List, [], Option}
 use Rattle.std.specs.Io.KnownBytes.{Appends}
-use Rattle.object_name.specs.Causes.{Rose}
+use Rattle.object_name.specs.Causes.{Rose, RoseBy}
 use Rattle.object_name.specs.Streams.{IsFront, AppendsFront}
 use Rattle.blob_store.specs.Store.{Store, Write, written}
+use Rattle.file_tree.specs.Files.{Files, Change, changed}
 use Rattle.gg_cli.specs.declared.status.Status.{Status}
-use Rattle.gg_cli.specs.declared.status.Status.TheVariants.{Done, StoreFault, ByteFault, Memory}
-use Rattle.gg_cli.specs.Texts.{store_fault_line, output_fault_line, memory_line}
+use Rattle.gg_cli.specs.declared.status.Status.TheVariants.{Done, StoreFault, FileFault, ByteFault, Memory}
+use Rattle.gg_cli.specs.Texts.{store_fault_line, file_fault_line, output_fault_line, memory_line}
 use Rattle.gg_cli.specs.Answer.{Answer}
 
--- what was there before a call and after it: the store, and the bytes on the output where they are told
+-- what was there before a call and after it: the store, the files, and the bytes on the output where they are told
 pub record Made : Type 0 where
   pub before : Store
   pub after : Store
+  pub files_before : Files
+  pub files_after : Files
   pub out_before : Option (List ℕ)
   pub out_after : Option (List ℕ)
 
--- a front of the answer's writes was made
-pub record MadeFront (a : Answer) (m : Made) : Type 0 where
+-- a front of the answer's writes was made, and no file was changed
+pub record MadeWrites (a : Answer) (m : Made) : Type 0 where
   pub front : List Write
   pub is_front : IsFront front a.writes
   pub after : m.after ≡ written m.before front
+  pub files : m.files_after ≡ m.files_before
 
--- all of the answer's writes were made
-abbrev pub MadeAll : Answer → Made → Type 0
-MadeAll a m = m.after ≡ written m.before a.writes
+-- all of the answer's writes were made, and a front of its changes of files
+pub record MadeChanges (a : Answer) (m : Made) : Type 0 where
+  pub after : m.after ≡ written m.before a.writes
+  pub front : List Change
+  pub is_front : IsFront front a.changes
+  pub files : m.files_after ≡ changed m.files_before front
+
+-- a front of all that the answer does was made
+abbrev pub MadeFront : Answer → Made → Type 0
+MadeFront a m = MadeWrites a m ⊎ MadeChanges a m
+
+-- all that the answer does was made
+pub record MadeAll (a : Answer) (m : Made) : Type 0 where
+  pub after : m.after ≡ written m.before a.writes
+  pub files : m.files_after ≡ changed m.files_before a.changes
 
 -- the answer, whole
 pub record IsWhole (a : Answer) (m : Made) (status : Status) : Type 0 where
   pub is_status : status ≡ a.status
-  pub writes : MadeAll a m
+  pub all : MadeAll a m
   pub text : Appends m.out_before m.out_after a.text
 
--- a fault of the keeper: a front of the writes, and no text
-pub record IsStoreFault (a : Answer) (m : Made) : Type 0 where
-  pub writes : MadeFront a m
+-- a fault of the keeper or the tree: a front of what is done, and no text
+pub record IsCallFault (a : Answer) (m : Made) : Type 0 where
+  pub front : MadeFront a m
   pub no_text : Appends m.out_before m.out_after []
 
--- a fault of the output: all writes of an answer that is done, and a front of its text
+-- a fault of the output: all that an answer does that is done, and a front of its text
 pub record IsOutFault (a : Answer) (m : Made) : Type 0 where
   pub done : a.status ≡ Done
-  pub writes : MadeAll a m
+  pub all : MadeAll a m
   pub text : AppendsFront m.out_before m.out_after a.text
 
--- want of memory: a front of the writes and a front of the text
+-- want of memory: a front of what is done and a front of the text
 pub record IsMemory (a : Answer) (m : Made) : Type 0 where
-  pub writes : MadeFront a m
+  pub front : MadeFront a m
   pub text : AppendsFront m.out_before m.out_after a.text
 
--- the status comes so: but for the two faults and want of memory, each is the answer's, and comes with all of it
+-- the status comes so: but for the three faults and want of memory, each is the answer's, and comes with all of it
 abbrev pub Comes : Answer → Made → Status → Type 0
-Comes a m StoreFault = IsStoreFault a m
+Comes a m StoreFault = IsCallFault a m
+Comes a m FileFault = IsCallFault a m
 Comes a m ByteFault = IsOutFault a m
 Comes a m Memory = IsMemory a m
 Comes a m status = IsWhole a m status
@@ -58,6 +75,7 @@ Comes a m status = IsWhole a m status
 -- the line that a status prints, but for `Done`, which prints none
 abbrev pub status_line : Answer → Status → List ℕ
 status_line a StoreFault = store_fault_line
+status_line a FileFault = file_fault_line
 status_line a ByteFault = output_fault_line
 status_line a Memory = memory_line
 status_line a status = a.line
@@ -83,8 +101,18 @@ Says a Done before after faults_before faults_after = Appends before after []
 Says a Memory before after faults_before faults_after = SaysFront a before after
 Says a status before after faults_before faults_after = SaysWhole (status_line a status) before after faults_before faults_after
 
--- faults come only where a count rose, whatever is told
-abbrev pub TopCause : ℕ → ℕ → ℕ → ℕ → Status → Type 0
-TopCause kept_before kept_after out_before out_after StoreFault = Rose kept_before kept_after
-TopCause kept_before kept_after out_before out_after ByteFault = Rose out_before out_after
-TopCause kept_before kept_after out_before out_after status = Unit {0}
+-- the counts of faults before a call and after it: the keeper's, the tree's and the output's
+pub record Counts : Type 0 where
+  pub kept_before : ℕ
+  pub kept_after : ℕ
+  pub files_before : ℕ
+  pub files_after : ℕ
+  pub out_before : ℕ
+  pub out_after : ℕ
+
+-- faults come only where a count rose, whatever is told: the keeper's and the tree's by more than the retries
+abbrev pub TopCause : ℕ → Counts → Status → Type 0
+TopCause retries counts StoreFault = RoseBy retries counts.kept_before counts.kept_after
+TopCause retries counts FileFault = RoseBy retries counts.files_before counts.files_after
+TopCause retries counts ByteFault = Rose counts.out_before counts.out_after
+TopCause retries counts status = Unit {0}

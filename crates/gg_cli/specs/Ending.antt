@@ -1,16 +1,22 @@
 -- What a command line does before its line is said: it ends done, or at a fault.
-use Rattle.std.specs.Prelude.{◌≡◌, ◌⊎◌, ℕ, List, Option, Result, Ok, Err}
+use Rattle.std.specs.Prelude.{◌≡◌, ◌⊎◌, ℕ, List, Option, Some, None, Result, Ok, Err}
 use Rattle.object_name.specs.Name.{ObjectName}
-use Rattle.object_name.specs.Streams.{AppendsFront}
-use Rattle.thunk_codec.specs.declared.reference.Ref.{Ref}
-use Rattle.blob_store.specs.Store.{Store, written}
+use Rattle.object_name.specs.Causes.{RoseBy}
+use Rattle.object_name.specs.Streams.{IsFront, AppendsFront}
+use Rattle.blob_store.specs.Store.{Store, Write, written}
+use Rattle.file_tree.specs.Files.{Files, Change, changed}
+use Rattle.file_tree.specs.declared.item.Item.{Item}
+use Rattle.need_eval.specs.Eval.{State, Ended, Got}
 use Rattle.gg_cli.specs.declared.fault.TopFault.{TopFault}
+use Rattle.gg_cli.specs.declared.fault.FilingFault.{FilingFault}
+use Rattle.gg_cli.specs.declared.fault.FilingFault.TheVariants as filings
 use Rattle.gg_cli.specs.declared.status.Status.{Status}
 use Rattle.gg_cli.specs.declared.status.Status.TheVariants.{Done, Memory}
-use Rattle.gg_cli.specs.Texts.{fault_line, value_lines}
+use Rattle.gg_cli.specs.Texts.{fault_line}
 use Rattle.gg_cli.specs.Faults.{fault_status, fault_text}
-use Rattle.gg_cli.specs.Answer.{Answer}
-use Rattle.gg_cli.specs.Comes.{Made, Comes, SaysWhole, TopCause, status_line}
+use Rattle.gg_cli.specs.Filing.{Filing, filed}
+use Rattle.gg_cli.specs.Answer.{Answer, forced, handed_out}
+use Rattle.gg_cli.specs.Comes.{Made, Counts, Comes, SaysWhole, TopCause, status_line}
 
 -- the status of the fault comes, and its line is that of the status
 pub record EndsAt (a : Answer) (m : Made) (fault : TopFault) : Type 0 where
@@ -22,21 +28,64 @@ abbrev pub Ends : {T : Type 0} → Answer → Made → Result T TopFault → Typ
 Ends a m (Ok v) = Comes a m Done
 Ends a m (Err fault) = EndsAt a m fault
 
--- the keeper or the output failed only where its count rose
-abbrev pub EndCause : {T : Type 0} → ℕ → ℕ → ℕ → ℕ → Result T TopFault → Type 0
-EndCause kept_before kept_after out_before out_after (Ok v) = Unit {0}
-EndCause kept_before kept_after out_before out_after (Err fault) = TopCause kept_before kept_after out_before out_after (fault_status fault)
+-- the keeper, the tree or the output failed only where its count rose
+abbrev pub EndCause : {T : Type 0} → ℕ → Counts → Result T TopFault → Type 0
+EndCause retries counts (Ok v) = Unit {0}
+EndCause retries counts (Err fault) = TopCause retries counts (fault_status fault)
 
--- the answer is done with these values, and all of its writes are made
-pub record HasValues (a : Answer) (names : List ObjectName) (items : List Ref) (before after : Store) : Type 0 where
-  pub done : a.status ≡ Done
-  pub text : a.text ≡ value_lines names items
-  pub writes : after ≡ written before a.writes
+-- no count but the keeper's may have risen
+abbrev pub kept_counts : ℕ → ℕ → Counts
+kept_counts before after = record { kept_before = before; kept_after = after; files_before = 0; files_after = 0; out_before = 0; out_after = 0 }
 
--- the values, or a fault before anything is printed
-abbrev pub Values : Answer → List Ref → Store → Store → Result (List ObjectName) TopFault → Type 0
-Values a items before after (Ok names) = HasValues a names items before after
-Values a items before after (Err fault) = (told : Option (List ℕ)) → EndsAt a (record { before = before; after = after; out_before = told; out_after = told }) fault
+-- nothing but the store may have changed
+abbrev pub only_store : Store → Store → Files → Option (List ℕ) → Made
+only_store before after files told = record { before = before; after = after; files_before = files; files_after = files; out_before = told; out_after = told }
+
+-- the evaluation gave these values, and all of its writes are made
+pub record HasValues (e : Ended (List ObjectName)) (names : List ObjectName) (before after : Store) : Type 0 where
+  pub last : State
+  pub got : e ≡ Got names last
+  pub store : after ≡ last.store
+  pub writes : after ≡ written before last.writes
+
+-- the values of the evaluation, or a fault before any file is written
+abbrev pub Values : Ended (List ObjectName) → Store → Store → Result (List ObjectName) TopFault → Type 0
+Values e before after (Ok names) = HasValues e names before after
+Values e before after (Err fault) = (items : List Item) (files : Files) (told : Option (List ℕ)) → EndsAt (forced items e) (only_store before after files told) fault
+
+-- a front of the changes was made
+pub record FiledFront (filing : Filing) (before after : Files) : Type 0 where
+  pub front : List Change
+  pub is_front : IsFront front filing.changes
+  pub files : after ≡ changed before front
+
+-- the changes were made, and no value was missing, or this one
+pub record FiledAll (filing : Filing) (missing : Option ObjectName) (before after : Files) : Type 0 where
+  pub is_missing : filing.missing ≡ missing
+  pub files : after ≡ changed before filing.changes
+
+-- the values went to their files, up to a fault
+abbrev pub FilesValues : {T : Type 0} → Filing → Files → Files → Result T FilingFault → Type 0
+FilesValues filing before after (Ok v) = FiledAll filing None before after
+FilesValues filing before after (Err (filings.Missing name)) = FiledAll filing (Some name) before after
+FilesValues filing before after (Err filings.StoreFailed) = FiledFront filing before after
+FilesValues filing before after (Err filings.FileFailed) = FiledFront filing before after
+FilesValues filing before after (Err filings.Memory) = FiledFront filing before after
+
+-- the keeper or the tree failed only where its count rose by more than the retries
+abbrev pub FilingCause : {T : Type 0} → ℕ → ℕ → ℕ → ℕ → ℕ → Result T FilingFault → Type 0
+FilingCause retries kept_before kept_after files_before files_after (Ok v) = Unit {0}
+FilingCause retries kept_before kept_after files_before files_after (Err (filings.Missing name)) = Unit {0}
+FilingCause retries kept_before kept_after files_before files_after (Err filings.StoreFailed) = RoseBy retries kept_before kept_after
+FilingCause retries kept_before kept_after files_before files_after (Err filings.FileFailed) = RoseBy retries files_before files_after
+FilingCause retries kept_before kept_after files_before files_after (Err filings.Memory) = Unit {0}
+
+-- after writes that gave these values, they go to their files and are printed
+abbrev pub HandsOut : {T : Type 0} → List ObjectName → List Item → Store → Store → Files → Files → Option (List ℕ) → Option (List ℕ) → Result T TopFault → Type 0
+HandsOut names items now after files_before files_after out_before out_after result =
+    (before : Store) (writes : List Write) → now ≡ written before writes →
+    Ends (handed_out writes names items (filed now.objects names items))
+    (record { before = before; after = after; files_before = files_before; files_after = files_after; out_before = out_before; out_after = out_after }) result
 
 -- the status and the line of the fault, or want of memory and a front of the line
 abbrev pub Speaks : TopFault → Status → Option (List ℕ) → Option (List ℕ) → ℕ → ℕ → Type 0

@@ -3,6 +3,7 @@ pub mod Reading
 pub mod Cat
 pub mod CatFits
 pub mod Texts
+pub mod Filing
 pub mod Answer
 pub mod Comes
 pub mod Codes
@@ -10,4 +11,3 @@ pub mod Commands
 pub mod Faults
 pub mod Writing
 pub mod Ending
-pub mod Met

@@ -1,8 +1,10 @@
 -- What is printed.
 use Rattle.std.specs.Prelude.{ℕ, List, [], ◌∷◌, ◌++◌, codes, decimal}
 use Rattle.object_name.specs.Name.{ObjectName, spelling}
-use Rattle.thunk_codec.specs.declared.reference.Ref.{Ref}
-use Rattle.thunk_codec.specs.Reference.{ref_text}
+use Rattle.file_tree.specs.declared.item.Item.{Item}
+use Rattle.file_tree.specs.declared.refusal.FileRefusal.{FileRefusal}
+use Rattle.file_tree.specs.declared.refusal.FileRefusal.TheVariants as files
+use Rattle.file_tree.specs.Wanted.{item_text}
 use Rattle.need_eval.specs.declared.fault.Refusal.{Refusal}
 use Rattle.need_eval.specs.declared.fault.Refusal.TheVariants.{Missing, BadThunk, NoOutput, Spent, TooBig, FunctionFailed}
 use Rattle.need_eval.specs.Eval.{Stop, Refused, Clash, Stands}
@@ -18,6 +20,10 @@ usage_line = fault_line (codes "usage")
 -- the keeper failed
 abbrev pub store_fault_line : List ℕ
 store_fault_line = fault_line (codes "store fault")
+
+-- the tree failed
+abbrev pub file_fault_line : List ℕ
+file_fault_line = fault_line (codes "file fault")
 
 -- the output failed
 abbrev pub output_fault_line : List ℕ
@@ -42,16 +48,22 @@ stop_text (Refused refusal) = refusal_text refusal
 stop_text (Clash name found fresh) = codes "two objects named " ++ spelling name
 stop_text (Stands text job) = []
 
--- an item stands twice
-abbrev pub twice_text : Ref → List ℕ
-twice_text item = codes "twice: " ++ ref_text item
+-- why a file is refused, or an item that stands twice
+abbrev pub file_text : FileRefusal → List ℕ
+file_text (files.Twice item) = codes "twice: " ++ item
+file_text (files.NoFile path) = codes "no file " ++ path
+file_text (files.TooLong path) = codes "too long: " ++ path
+file_text (files.NotPlaceholder path) = codes "not a placeholder: " ++ path
+file_text (files.Generated path) = codes "generated: " ++ path
+file_text (files.ThunkText path) = codes "thunk text: " ++ path
+file_text (files.Computed path line) = codes "computed include: " ++ (path ++ (codes " line " ++ decimal line))
 
 -- a value's name, a space, the item, and a line feed
-abbrev pub value_line : ObjectName → Ref → List ℕ
-value_line name item = spelling name ++ (32 ∷ (ref_text item ++ 10 ∷ []))
+abbrev pub value_line : ObjectName → Item → List ℕ
+value_line name item = spelling name ++ (32 ∷ (item_text item ++ 10 ∷ []))
 
 -- a line for each value
-abbrev pub value_lines : List ObjectName → List Ref → List ℕ
+abbrev pub value_lines : List ObjectName → List Item → List ℕ
 value_lines [] items = []
 value_lines (name ∷ names) [] = []
 value_lines (name ∷ names) (item ∷ items) = value_line name item ++ value_lines names items

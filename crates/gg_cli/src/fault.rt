@@ -5,26 +5,41 @@ ghost use Rattle.gg_cli.specs.declared.fault.TopFault.TheVariants.{Memory};
 ghost use Rattle.gg_cli.specs.Answer.{refusal_status};
 
 use crate::status::Status;
+use file_tree::{FileRefusal, WantFault};
 use need_eval::Refusal;
 use object_name::Name;
 use std::alloc::{AllocError, AllocFailed};
-use thunk_codec::Ref;
 
 /// Why a command line isn't done.
-#[derive(Clone, Copy, Debug, PartialEq, Eq)]
+#[derive(Debug, Drop)]
 pub(crate) enum TopFault {
     /// The words are no command line.
     Usage,
-    /// An item stands twice.
-    Twice(Ref),
+    /// An item is refused.
+    FileRefused(FileRefusal),
     /// What was wanted is refused.
     Refused(Refusal),
     /// Other bytes are held under the name of an output.
     Clash(Name),
     /// The keeper failed.
     StoreFailed,
+    /// The tree failed.
+    FileFailed,
     /// The output failed.
     OutputFailed,
+    /// Memory was refused.
+    Memory,
+}
+
+/// Why values aren't in the files that wanted them.
+#[derive(Clone, Copy, Debug, PartialEq, Eq)]
+pub(crate) enum FilingFault {
+    /// A value isn't held.
+    Missing(Name),
+    /// The keeper failed.
+    StoreFailed,
+    /// The tree failed.
+    FileFailed,
     /// Memory was refused.
     Memory,
 }
@@ -42,6 +57,35 @@ impl<T: Drop> From<AllocFailed<T>> for TopFault {
 
     fn from(_: AllocFailed<T>) -> Self {
         TopFault::Memory
+    }
+}
+
+impl From<WantFault> for TopFault {
+    ghost use Rattle.gg_cli.specs.Faults.{want_fault};
+
+    ghost from_gives = { λ fault top. top ≡ want_fault fault };
+
+    fn from(fault: WantFault) -> Self {
+        match fault {
+            WantFault::Refused(refusal) => TopFault::FileRefused(refusal),
+            WantFault::Failed => TopFault::FileFailed,
+            WantFault::Memory => TopFault::Memory,
+        }
+    }
+}
+
+impl From<FilingFault> for TopFault {
+    ghost use Rattle.gg_cli.specs.Faults.{filing_fault};
+
+    ghost from_gives = { λ fault top. top ≡ filing_fault fault };
+
+    fn from(fault: FilingFault) -> Self {
+        match fault {
+            FilingFault::Missing(name) => TopFault::Refused(Refusal::Missing(name)),
+            FilingFault::StoreFailed => TopFault::StoreFailed,
+            FilingFault::FileFailed => TopFault::FileFailed,
+            FilingFault::Memory => TopFault::Memory,
+        }
     }
 }
 
@@ -68,10 +112,11 @@ impl TopFault {
     {
         match self {
             TopFault::Usage => Status::Usage,
-            TopFault::Twice(_) => Status::FileRefused,
+            TopFault::FileRefused(_) => Status::FileRefused,
             TopFault::Refused(refusal) => refusal_status(refusal),
             TopFault::Clash(_) => Status::Clash,
             TopFault::StoreFailed => Status::StoreFault,
+            TopFault::FileFailed => Status::FileFault,
             TopFault::OutputFailed => Status::ByteFault,
             TopFault::Memory => Status::Memory,
         }

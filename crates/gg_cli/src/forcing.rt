@@ -1,22 +1,24 @@
-//! Forcing: values of references, from the store to the output.
+//! Forcing: values of wanted items, from the store to the files and the output.
 
-ghost use Rattle.std.specs.Prelude.{◌≡◌, ◌≢◌, [], ℕ, All, Err, IfOk, IfErr};
+ghost use Rattle.std.specs.Prelude.{◌≡◌, ◌≢◌, ◌≤◌, ℕ, All, Err};
 ghost use Rattle.thunk_codec.specs.Reference.{IsRef};
+ghost use Rattle.file_tree.specs.Wanted.{IsItem, wanted_of};
 ghost use Rattle.need_eval.specs.Eval.{start};
 ghost use Rattle.need_eval.specs.Evaluation.{values_of, by_function};
 ghost use Rattle.gg_cli.specs.Cat.{tool_outcome};
-ghost use Rattle.gg_cli.specs.Answer.{forced, forced_once, first_repeated};
+ghost use Rattle.gg_cli.specs.Answer.{wanted_forced};
 ghost use Rattle.gg_cli.specs.Faults.{IsFaultOf};
-ghost use Rattle.gg_cli.specs.Ending.{Ends, Values, EndCause};
+ghost use Rattle.gg_cli.specs.Ending.{Ends, Values, HandsOut, EndCause, kept_counts};
 
 use crate::cat::CatRunner;
 use crate::fault::TopFault;
-use crate::met::Met;
+use crate::filing::write_files;
 use crate::printing::print_values;
 use blob_store::Keeper;
+use file_tree::{Item, Tree, wanted};
 use need_eval::{EvalFault, evaluate};
 use object_name::{Many, Name, Sink, Trouble};
-use std::alloc::{AllocError, Global};
+use std::alloc::Global;
 use thunk_codec::Ref;
 
 /// The fault that an evaluation ended with.
@@ -34,90 +36,88 @@ fn fault_of(fault: &EvalFault) -> TopFault
     }
 }
 
-/// Copies of some references, in order.
-fn copy_refs(alloc: Global, items: &[Ref]) -> Result<Many<Ref>, TopFault>
-    ensures same { IfOk result (λ copies. copies ≡ items.now) }
-    ensures memory { IfErr result (λ fault. fault ≡ TopFault.Memory) }
-{
-    let mut copies = Many::new(alloc);
-    'copied: for item in items {
-        copies.push(*item)?;
-    }
-    Ok(copies)
-}
-
 /// The values of references, in order.
 fn find_values<K: Keeper>(
     alloc: Global,
     keeper: &mut K,
+    refs: Many<Ref>,
     budget: u32,
-    items: &[Ref],
+    retries: u32,
 ) -> Result<Many<Name>, TopFault>
-    requires { All IsRef items.now }
-    ensures values { K.tells → Values (forced items.now (values_of (by_function tool_outcome) budget items.now (start (K.store keeper.old))))
-        items.now (K.store keeper.old) (K.store keeper.new) result }
-    ensures cause { (printed : ℕ) → EndCause (K.faults keeper.old) (K.faults keeper.new) printed printed result }
+    requires { All IsRef refs }
+    ensures values { K.tells → Values (values_of (by_function tool_outcome) budget refs (start (K.store keeper.old))) (K.store keeper.old) (K.store keeper.new) result }
+    ensures later { K.faults keeper.old ≤ K.faults keeper.new }
+    ensures cause { EndCause retries (kept_counts (K.faults keeper.old) (K.faults keeper.new)) result }
     ensures no_usage { result ≢ Err TopFault.Usage }
 {
-    let refs = copy_refs(alloc, items)?;
-    match evaluate(alloc, keeper, refs, budget, 0, &mut CatRunner) {
+    match evaluate(alloc, keeper, refs, budget, retries, &mut CatRunner) {
         Ok(values) => Ok(values.names),
         Err(fault) => Err(fault_of(&fault)),
     }
 }
 
-/// The first of some references that stands before it too.
-fn find_repeated(alloc: Global, items: &[Ref]) -> Result<Option<Ref>, AllocError>
-    requires { All IsRef items.now }
-    ensures { IfOk result (λ found. found ≡ first_repeated [] items.now) }
-{
-    let mut met = Met::new(alloc);
-    'items: for item in items {
-        if !met.insert(item)? {
-            return Ok(Some(*item));
-        }
-    }
-    Ok(None)
-}
-
-/// Does `force` where no item stands twice: a line for each value goes to the output.
-fn force_each<K: Keeper, O: Sink>(
+/// Writes the values to the files that wanted them, and then prints a line for each.
+fn hand_out<K: Keeper, T: Tree, O: Sink>(
     alloc: Global,
     keeper: &mut K,
+    tree: &mut T,
     out: &mut O,
-    budget: u32,
-    items: &[Ref],
+    names: &[Name],
+    items: &[Item],
+    retries: u32,
 ) -> Result<(), TopFault>
-    requires { All IsRef items.now }
-    ensures ends { K.tells → Ends (forced items.now (values_of (by_function tool_outcome) budget items.now (start (K.store keeper.old))))
-        (record { before = K.store keeper.old; after = K.store keeper.new; out_before = O.written out.old; out_after = O.written out.new }) result }
-    ensures cause { EndCause (K.faults keeper.old) (K.faults keeper.new) (O.faults out.old) (O.faults out.new) result }
+    ensures ends { K.tells → T.tells → HandsOut names.now items.now (K.store keeper.old) (K.store keeper.new) (T.files tree.old) (T.files tree.new) (O.written out.old) (O.written out.new) result }
+    ensures cause { EndCause retries (record {
+      kept_before = K.faults keeper.old;
+      kept_after = K.faults keeper.new;
+      files_before = T.faults tree.old;
+      files_after = T.faults tree.new;
+      out_before = O.faults out.old;
+      out_after = O.faults out.new;
+    }) result }
+    ensures kept_later { K.faults keeper.old ≤ K.faults keeper.new }
+    ensures files_later { T.faults tree.old ≤ T.faults tree.new }
     ensures no_usage { result ≢ Err TopFault.Usage }
 {
-    let names = find_values(alloc, keeper, budget, items)?;
-    match print_values(alloc, out, names.as_slice(), items) {
+    write_files(alloc, keeper, tree, names, items, retries)?;
+    match print_values(alloc, out, names, items) {
         Ok(()) => Ok(()),
         Err(Trouble::Failed) => Err(TopFault::OutputFailed),
         Err(Trouble::Memory) => Err(TopFault::Memory),
     }
 }
 
-/// Does `force`.
-pub(crate) fn force<K: Keeper, O: Sink>(
+/// Does `force`: the references of the items, their values, the files of the items, and a line for each value.
+pub(crate) fn force<K: Keeper, T: Tree, O: Sink>(
     alloc: Global,
     keeper: &mut K,
+    tree: &mut T,
     out: &mut O,
+    items: &[Item],
     budget: u32,
-    items: &[Ref],
+    retries: u32,
 ) -> Result<(), TopFault>
-    requires { All IsRef items.now }
-    ensures ends { K.tells → Ends (forced_once budget items.now (first_repeated [] items.now) (K.store keeper.old))
-        (record { before = K.store keeper.old; after = K.store keeper.new; out_before = O.written out.old; out_after = O.written out.new }) result }
-    ensures cause { EndCause (K.faults keeper.old) (K.faults keeper.new) (O.faults out.old) (O.faults out.new) result }
+    requires { All IsItem items.now }
+    ensures ends { K.tells → T.tells → Ends (wanted_forced budget items.now (K.store keeper.old) (wanted_of (T.files tree.old) items.now))
+        (record {
+          before = K.store keeper.old;
+          after = K.store keeper.new;
+          files_before = T.files tree.old;
+          files_after = T.files tree.new;
+          out_before = O.written out.old;
+          out_after = O.written out.new;
+        }) result }
+    ensures cause { EndCause retries (record {
+      kept_before = K.faults keeper.old;
+      kept_after = K.faults keeper.new;
+      files_before = T.faults tree.old;
+      files_after = T.faults tree.new;
+      out_before = O.faults out.old;
+      out_after = O.faults out.new;
+    }) result }
     ensures no_usage { result ≢ Err TopFault.Usage }
 {
-    match find_repeated(alloc, items)? {
-        Some(item) => Err(TopFault::Twice(item)),
-        None => force_each(alloc, keeper, out, budget, items),
-    }
+    let refs = wanted(alloc, tree, items, retries)?;
+    let names = find_values(alloc, keeper, refs, budget, retries)?;
+    hand_out(alloc, keeper, tree, out, names.as_slice(), items, retries)
 }

@@ -3,8 +3,8 @@
 
 mod cat;
 mod fault;
+mod filing;
 mod forcing;
-mod met;
 mod printing;
 mod saying;
 mod status;

@@ -2,8 +2,7 @@
 
 ghost use Rattle.std.specs.Prelude.{◌≡◌, ◌++◌, ◌∷◌, codes, decimal};
 ghost use Rattle.object_name.specs.Name.{spelling};
-ghost use Rattle.thunk_codec.specs.declared.reference.Ref.TheVariants.{Out};
-ghost use Rattle.gg_cli.specs.Texts.{refusal_text, fault_line, twice_text};
+ghost use Rattle.gg_cli.specs.Texts.{refusal_text, file_text, fault_line};
 ghost use Rattle.gg_cli.specs.Faults.{fault_text};
 ghost use Rattle.gg_cli.specs.Writing.{Writes};
 ghost use Rattle.gg_cli.specs.Ending.{Speaks};
@@ -11,10 +10,11 @@ ghost use Rattle.gg_cli.specs.Ending.{Speaks};
 use crate::fault::TopFault;
 use crate::status::Status;
 use crate::writing::{write, write_decimal, write_named};
+use file_tree::FileRefusal;
 use need_eval::Refusal;
 use object_name::{Name, Sink, Trouble};
 use std::alloc::Global;
-use thunk_codec::Ref;
+use thunk_codec::Path;
 
 /// Writes some bytes, a number, some bytes and a name.
 fn write_counted<S: Sink>(
@@ -60,28 +60,41 @@ fn write_too_big<S: Sink>(
     write_decimal(alloc, sink, bytes)
 }
 
-/// Writes that an item stands twice.
-fn write_twice<S: Sink>(alloc: Global, sink: &mut S, item: &Ref) -> Result<(), Trouble>
-    ensures { Writes (twice_text item.now) (S.written sink.old) (S.written sink.new) (S.faults sink.old) (S.faults sink.new) result }
+/// Writes some bytes and others.
+fn write_said<S: Sink>(sink: &mut S, said: &[u8], then: &[u8]) -> Result<(), Trouble>
+    ensures { Writes (said.now ++ then.now) (S.written sink.old) (S.written sink.new) (S.faults sink.old) (S.faults sink.new) result }
 {
-    match item {
-        Ref::Value(name) => write_named(sink, b"twice: ", name),
-        Ref::Out(name, index) => write_twice_output(alloc, sink, name, *index),
-    }
+    write(sink, said)?;
+    write(sink, then)
 }
 
-/// Writes that an output of a thunk stands twice among the items.
-fn write_twice_output<S: Sink>(
+/// Writes that the name of an included file is computed.
+fn write_computed<S: Sink>(
     alloc: Global,
     sink: &mut S,
-    name: &Name,
-    index: u32,
+    path: &Path,
+    line: u32,
 ) -> Result<(), Trouble>
-    ensures { Writes (twice_text (Out name.now index)) (S.written sink.old) (S.written sink.new) (S.faults sink.old) (S.faults sink.new) result }
+    ensures { Writes (codes "computed include: " ++ (path.now ++ (codes " line " ++ decimal line))) (S.written sink.old) (S.written sink.new) (S.faults sink.old) (S.faults sink.new) result }
 {
-    write_named(sink, b"twice: ", name)?;
-    write(sink, b"#")?;
-    write_decimal(alloc, sink, u64::from(index))
+    write_said(sink, b"computed include: ", path.text())?;
+    write(sink, b" line ")?;
+    write_decimal(alloc, sink, u64::from(line))
+}
+
+/// Writes why an item is refused.
+fn write_file<S: Sink>(alloc: Global, sink: &mut S, refusal: &FileRefusal) -> Result<(), Trouble>
+    ensures { Writes (file_text refusal.now) (S.written sink.old) (S.written sink.new) (S.faults sink.old) (S.faults sink.new) result }
+{
+    match refusal {
+        FileRefusal::Twice(item) => write_said(sink, b"twice: ", item.as_slice()),
+        FileRefusal::NoFile(path) => write_said(sink, b"no file ", path.text()),
+        FileRefusal::TooLong(path) => write_said(sink, b"too long: ", path.text()),
+        FileRefusal::NotPlaceholder(path) => write_said(sink, b"not a placeholder: ", path.text()),
+        FileRefusal::Generated(path) => write_said(sink, b"generated: ", path.text()),
+        FileRefusal::ThunkText(path) => write_said(sink, b"thunk text: ", path.text()),
+        FileRefusal::Computed { path, line } => write_computed(alloc, sink, path, *line),
+    }
 }
 
 /// Writes why what was wanted is refused.
@@ -118,10 +131,11 @@ fn write_text<S: Sink>(alloc: Global, sink: &mut S, fault: &TopFault) -> Result<
 {
     match fault {
         TopFault::Usage => write(sink, b"usage"),
-        TopFault::Twice(item) => write_twice(alloc, sink, item),
+        TopFault::FileRefused(refusal) => write_file(alloc, sink, refusal),
         TopFault::Refused(refusal) => write_refusal(alloc, sink, refusal),
         TopFault::Clash(name) => write_named(sink, b"two objects named ", name),
         TopFault::StoreFailed => write(sink, b"store fault"),
+        TopFault::FileFailed => write(sink, b"file fault"),
         TopFault::OutputFailed => write(sink, b"output fault"),
         TopFault::Memory => write(sink, b"want of memory"),
     }

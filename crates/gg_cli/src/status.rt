@@ -28,6 +28,8 @@ pub enum Status {
     Clash,
     /// The keeper failed.
     StoreFault,
+    /// The tree failed.
+    FileFault,
     /// The output failed.
     ByteFault,
     /// Memory was refused.
@@ -53,6 +55,7 @@ impl Status {
             Status::FileRefused => 8,
             Status::Clash => 10,
             Status::StoreFault => 12,
+            Status::FileFault => 13,
             Status::ByteFault => 14,
             Status::Memory => 17,
         }

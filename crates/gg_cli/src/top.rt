@@ -1,7 +1,7 @@
 //! One command line, from its words to what is written.
 
 ghost use Rattle.std.specs.Prelude.{◌≡◌, ◌≢◌, ◌⊎◌, Some, None, Err, map, string_bytes};
-ghost use Rattle.gg_cli.specs.Words.{command_of};
+ghost use Rattle.gg_cli.specs.Words.{command_of, retries_in};
 ghost use Rattle.gg_cli.specs.Commands.{IsCommand};
 ghost use Rattle.gg_cli.specs.Answer.{answer_of, answer_of_command};
 ghost use Rattle.gg_cli.specs.Comes.{Comes, Says, TopCause};
@@ -13,42 +13,85 @@ use crate::saying::say;
 use crate::status::Status;
 use crate::words::{Command, WordFault, read_words};
 use blob_store::Keeper;
+use file_tree::Tree;
 use object_name::Sink;
 use std::alloc::Global;
 
 /// Does a command.
-fn do_command<K: Keeper, O: Sink>(
+fn do_command<K: Keeper, T: Tree, O: Sink>(
     alloc: Global,
     command: &Command,
     keeper: &mut K,
+    tree: &mut T,
     out: &mut O,
 ) -> Result<(), TopFault>
     requires { IsCommand command.now }
-    ensures ends { K.tells → Ends (answer_of_command (Some command.now) (K.store keeper.old))
-        (record { before = K.store keeper.old; after = K.store keeper.new; out_before = O.written out.old; out_after = O.written out.new }) result }
-    ensures cause { EndCause (K.faults keeper.old) (K.faults keeper.new) (O.faults out.old) (O.faults out.new) result }
+    ensures ends { K.tells → T.tells → Ends (answer_of_command (Some command.now) (K.store keeper.old) (T.files tree.old))
+        (record {
+          before = K.store keeper.old;
+          after = K.store keeper.new;
+          files_before = T.files tree.old;
+          files_after = T.files tree.new;
+          out_before = O.written out.old;
+          out_after = O.written out.new;
+        }) result }
+    ensures cause { EndCause (retries_in (Some command.now)) (record {
+      kept_before = K.faults keeper.old;
+      kept_after = K.faults keeper.new;
+      files_before = T.faults tree.old;
+      files_after = T.faults tree.new;
+      out_before = O.faults out.old;
+      out_after = O.faults out.new;
+    }) result }
     ensures no_usage { result ≢ Err TopFault.Usage }
 {
     match command {
-        Command::Force { budget, items } => force(alloc, keeper, out, *budget, items.as_slice()),
+        Command::Force {
+            budget,
+            retries,
+            items,
+        } => force(
+            alloc,
+            keeper,
+            tree,
+            out,
+            items.as_slice(),
+            *budget,
+            *retries,
+        ),
     }
 }
 
 /// Does one command line, but for the line of its fault.
-fn obey<K: Keeper, O: Sink>(
+fn obey<K: Keeper, T: Tree, O: Sink>(
     alloc: Global,
     words: &[String],
     keeper: &mut K,
+    tree: &mut T,
     out: &mut O,
 ) -> Result<(), TopFault>
-    ensures ends { K.tells → Ends (answer_of (map string_bytes words.now) (K.store keeper.old))
-        (record { before = K.store keeper.old; after = K.store keeper.new; out_before = O.written out.old; out_after = O.written out.new }) result }
-    ensures cause { EndCause (K.faults keeper.old) (K.faults keeper.new) (O.faults out.old) (O.faults out.new) result }
+    ensures ends { K.tells → T.tells → Ends (answer_of (map string_bytes words.now) (K.store keeper.old) (T.files tree.old))
+        (record {
+          before = K.store keeper.old;
+          after = K.store keeper.new;
+          files_before = T.files tree.old;
+          files_after = T.files tree.new;
+          out_before = O.written out.old;
+          out_after = O.written out.new;
+        }) result }
+    ensures cause { EndCause (retries_in (command_of (map string_bytes words.now))) (record {
+      kept_before = K.faults keeper.old;
+      kept_after = K.faults keeper.new;
+      files_before = T.faults tree.old;
+      files_after = T.faults tree.new;
+      out_before = O.faults out.old;
+      out_after = O.faults out.new;
+    }) result }
     ensures usage { result ≡ Err TopFault.Usage → command_of (map string_bytes words.now) ≡ None }
     ensures no_command { command_of (map string_bytes words.now) ≡ None → (result ≡ Err TopFault.Usage) ⊎ (result ≡ Err TopFault.Memory) }
 {
     match read_words(alloc, words) {
-        Ok(command) => do_command(alloc, &command, keeper, out),
+        Ok(command) => do_command(alloc, &command, keeper, tree, out),
         Err(WordFault::Usage) => Err(TopFault::Usage),
         Err(WordFault::Memory) => Err(TopFault::Memory),
     }
@@ -56,25 +99,40 @@ fn obey<K: Keeper, O: Sink>(
 
 /// Does one command line, without links, and waits for nobody. The text goes to `out`; a fault's one line goes to `err`, after
 /// all else.
-pub fn gg_top<K: Keeper, O: Sink, E: Sink>(
+pub fn gg_top<K: Keeper, T: Tree, O: Sink, E: Sink>(
     alloc: Global,
     words: &[String],
     keeper: &mut K,
+    tree: &mut T,
     out: &mut O,
     err: &mut E,
 ) -> Status
-    // Where the keeper tells, all is as the answer by the definition has it, or a fault stopped it after a front.
-    ensures exact { K.tells → Comes (answer_of (map string_bytes words.now) (K.store keeper.old))
-        (record { before = K.store keeper.old; after = K.store keeper.new; out_before = O.written out.old; out_after = O.written out.new }) result }
-    ensures said { K.tells → Says (answer_of (map string_bytes words.now) (K.store keeper.old)) result
+    // Where the keeper and the tree tell, all is as the answer by the definition has it, or a fault stopped it after a front.
+    ensures exact { K.tells → T.tells → Comes (answer_of (map string_bytes words.now) (K.store keeper.old) (T.files tree.old))
+        (record {
+          before = K.store keeper.old;
+          after = K.store keeper.new;
+          files_before = T.files tree.old;
+          files_after = T.files tree.new;
+          out_before = O.written out.old;
+          out_after = O.written out.new;
+        }) result }
+    ensures said { K.tells → T.tells → Says (answer_of (map string_bytes words.now) (K.store keeper.old) (T.files tree.old)) result
         (E.written err.old) (E.written err.new) (E.faults err.old) (E.faults err.new) }
-    // A fault comes only where a count rose, whatever is told.
-    ensures cause { TopCause (K.faults keeper.old) (K.faults keeper.new) (O.faults out.old) (O.faults out.new) result }
+    // A fault comes only where a count rose, by more than the retries where calls are tried again, whatever is told.
+    ensures cause { TopCause (retries_in (command_of (map string_bytes words.now))) (record {
+      kept_before = K.faults keeper.old;
+      kept_after = K.faults keeper.new;
+      files_before = T.faults tree.old;
+      files_after = T.faults tree.new;
+      out_before = O.faults out.old;
+      out_after = O.faults out.new;
+    }) result }
     // Words that are no command line, and no others, are a usage fault, unless memory runs out.
     ensures usage { result ≡ Status.Usage → command_of (map string_bytes words.now) ≡ None }
     ensures no_command { command_of (map string_bytes words.now) ≡ None → (result ≡ Status.Usage) ⊎ (result ≡ Status.Memory) }
 {
-    match obey(alloc, words, keeper, out) {
+    match obey(alloc, words, keeper, tree, out) {
         Ok(()) => Status::Done,
         Err(fault) => say(alloc, err, &fault),
     }

@@ -67,7 +67,7 @@ fn other_words_are_a_usage_fault(rt: HostRuntime) -> Result<(), Fail> {
         &[],
         &["force"],
         &["force", "--local"],
-        &["force", EMPTY],
+        &["force", "--local", "--local", EMPTY],
         &["force", "--local", "--budget"],
         &["force", "--local", "--budget", "1"],
         &["force", "--local", "--budget", "05", EMPTY],
@@ -75,8 +75,8 @@ fn other_words_are_a_usage_fault(rt: HostRuntime) -> Result<(), Fail> {
         &["force", "--local", "--budget", "1048577", EMPTY],
         &["force", "--local", "--budget", "1", "--budget", "1", EMPTY],
         &["force", "--local", EMPTY, "--budget", "1"],
-        &["force", "--local", "--retries", "2", EMPTY],
-        &["force", "--local", "path"],
+        &["force", "--local", "--retries", "17", EMPTY],
+        &["force", "--local", "/path"],
         &["demo", "0", EMPTY],
     ];
     for words in lists {

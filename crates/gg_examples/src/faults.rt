@@ -1,7 +1,7 @@
 //! A store and an output that fail.
 
 use crate::objects::{Item, Objects};
-use crate::running::{assert_gives, assert_refused, force_one, run_with};
+use crate::running::{assert_gives, assert_refused, run_one, run_with};
 use gg_cli::Status;
 use object_name::name_of;
 use std::test::Fail;
@@ -18,7 +18,8 @@ fn each_call_of_the_store_fails_in_turn(rt: HostRuntime) -> Result<(), Fail> {
         let mut objects = Objects::new(alloc);
         let thunk = objects.cat_of_three()?;
         let mut keeper = objects.keeper(&[failing])?;
-        let ran = force_one(alloc, &mut keeper, &Item::Out(thunk, 0))?;
+        let words = ["force", "--local", "--retries", "0"];
+        let ran = run_one(alloc, &mut keeper, &words, &Item::Out(thunk, 0))?;
         assert_refused(&rt, &ran, Status::StoreFault, b"gg: store fault\n");
         assert_eq!(rt; keeper.calls(), failing);
         // The same command over what is left gives the undisturbed answer.

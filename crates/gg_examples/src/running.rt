@@ -2,6 +2,7 @@
 
 use crate::objects::{Item, append_item, append_name};
 use blob_store::MemKeeper;
+use file_tree::MemTree;
 use gg_cli::{Status, gg_top};
 use object_name::{Bytes, Many, MemSink, Name, name_of};
 use std::alloc::Global;
@@ -30,7 +31,7 @@ fn add_item(alloc: Global, words: &mut Vec<String>, item: &Item) -> Result<(), F
     add_word(alloc, words, text.as_slice())
 }
 
-/// Runs a command line, with an output of which the listed writes fail.
+/// Runs a command line where there are no files, with an output of which the listed writes fail.
 fn run_words(
     alloc: Global,
     keeper: &mut MemKeeper,
@@ -39,7 +40,8 @@ fn run_words(
 ) -> Result<Ran, Fail> {
     let mut out = MemSink::new(alloc, Many(failing.to_vec(alloc)?))?;
     let mut err = MemSink::new(alloc, Many::new(alloc))?;
-    let status = gg_top(alloc, words, keeper, &mut out, &mut err);
+    let mut tree = MemTree::new(alloc, Many::new(alloc), Many::new(alloc))?;
+    let status = gg_top(alloc, words, keeper, &mut tree, &mut out, &mut err);
     Ok(Ran {
         status,
         out: out.into_content(),

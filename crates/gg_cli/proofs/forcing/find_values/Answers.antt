@@ -2,9 +2,7 @@ use Rattle.gg_cli.proofs.ForcingLemmas.{values_found, fault_found}
 use Rattle.gg_cli.proofs.forcing.find_values.Goals as goal
 
 pub returns-in-Ok-clause-values : goal.returns-in-Ok-clause-values
-returns-in-Ok-clause-values g c told =
-    values_found _ _ c.args.items.now c.in_ok-refs.ensures.same _ _ _ (c.in-Ok.ensures.exact told)
+returns-in-Ok-clause-values g c told = values_found _ _ _ _ _ (c.in-Ok.ensures.exact told)
 
 pub returns-in-Err-clause-values : goal.returns-in-Err-clause-values
-returns-in-Err-clause-values g c told =
-    fault_found _ _ c.args.items.now c.in_ok-refs.ensures.same _ _ _ _ (c.in-Err.ensures.exact told) c.fault_of.ensures.is_fault
+returns-in-Err-clause-values g c told = fault_found _ _ _ _ _ _ (c.in-Err.ensures.exact told) c.fault_of.ensures.is_fault
