@@ -1,5 +1,6 @@
 #!/bin/sh
-# Makes a small store in a new folder, with a thunk that joins three values, and forces it twice.
+# Makes a small store in a new folder, with a thunk that joins three values and a placeholder file for its output, and forces it:
+# by its name, and then the file.
 # It needs nothing but a shell, sha256sum and base64. The one argument, if given, is the folder to use.
 set -eu
 here=$(cd "$(dirname "$0")/.." && pwd)
@@ -44,12 +45,13 @@ printf 'c' >c
 } >thunk
 thunk=$(keep thunk)
 
+printf 'gg-placeholder 1\n%s#0\n' "$thunk" >joined
+
 echo "in $folder:"
-for run in first second; do
-    echo "\$ gg force --local $thunk#0"
-    "$here/gg" force --local "$thunk#0"
-done
-value=$("$here/gg" force --local "$thunk#0" | cut -d' ' -f1)
-echo "\$ cat .gg/objects/$value"
-cat ".gg/objects/$value"
+echo "\$ gg force $thunk#0"
+"$here/gg" force "$thunk#0"
+echo "\$ gg force joined"
+"$here/gg" force joined
+echo "\$ cat joined"
+cat joined
 echo
