@@ -5,10 +5,7 @@
 # are installed. It needs python3, and works in a folder on a memory file system.
 set -eu
 here=$(cd "$(dirname "$0")/.." && pwd)
-"$here/gg" >/dev/null 2>&1 || true # builds it where it is missing
-gg=$here/crates/gg/out/gg
-folder=$(mktemp -d "${BENCH_FOLDER:-/dev/shm}/gg-bench.XXXXXX")
-trap 'rm -rf "$folder"' EXIT
+. "$here/bench/setup.sh"
 
 # Makes a store, the words of the command that forces it, a makefile and a ninja file: make_store KIND NUMBER.
 make_store() {

@@ -3,10 +3,7 @@
 # in one run, and prints its peak memory beside the bytes of its job.
 set -eu
 here=$(cd "$(dirname "$0")/.." && pwd)
-"$here/gg" >/dev/null 2>&1 || true # builds it where it is missing
-gg=$here/crates/gg/out/gg
-folder=$(mktemp -d "${BENCH_FOLDER:-/dev/shm}/gg-bench.XXXXXX")
-trap 'rm -rf "$folder"' EXIT
+. "$here/bench/setup.sh"
 mkdir -p "$folder/.gg/objects"
 cd "$folder"
 
