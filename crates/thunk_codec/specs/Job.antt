@@ -1,5 +1,5 @@
 -- Jobs: what a function is run on, and how long its encoding is.
-use Rattle.std.specs.Prelude.{ℕ, ◌+◌, List, ◌++◌, length, map, sum_by}
+use Rattle.std.specs.Prelude.{ℕ, ◌+◌, List, [], ◌∷◌, ◌++◌, length, map, sum_by, bytes_eq, Option, Some, None, if◌then◌else◌}
 use Rattle.std.specs.List.{flat_map}
 use Rattle.std.specs.Int.{w32, to_be_bytes}
 use Rattle.object_name.specs.Name.{ObjectName}
@@ -52,3 +52,8 @@ ref_name (Out name index) = name
 -- the size of the job of a thunk whose REFs are all values, by the sizes in their names
 unfoldable pub resolved_size : Parts → ℕ
 resolved_size t = size_by_lengths (ref_name t.function).size t.args t.envs (map (λ input. (input.0, (ref_name input.1).size)) t.inputs) t.outputs
+
+-- the bytes of the first input with this path
+abbrev pub input_at : List ℕ → List (List ℕ × List ℕ) → Option (List ℕ)
+input_at path [] = None
+input_at path (input ∷ inputs) = if bytes_eq input.0 path then Some input.1 else input_at path inputs

@@ -33,6 +33,7 @@ pub use path::Path;
 pub use placeholder::{read_placeholder, write_placeholder};
 pub use reference::Ref;
 pub use resolving::resolve;
+pub use rules::{is_identifier, is_letter, is_letter_or_digit};
 pub use thunk::Thunk;
 
 #[cfg(test)]

@@ -19,15 +19,15 @@ fn has_no_zero(bytes: &[u8]) -> bool
     bytes.iter().all(|byte| *byte != 0)
 }
 
-/// Whether a byte may begin an identifier.
-fn is_letter(byte: u8) -> bool
+/// Whether a byte may begin an identifier: an ASCII letter or `_`.
+pub fn is_letter(byte: u8) -> bool
     ensures { result ≡ is_letter byte }
 {
     byte.is_ascii_uppercase() || byte.is_ascii_lowercase() || byte == b'_'
 }
 
-/// Whether a byte may stand in an identifier behind the first.
-fn is_letter_or_digit(byte: u8) -> bool
+/// Whether a byte may stand in an identifier behind the first: an ASCII letter, a digit or `_`.
+pub fn is_letter_or_digit(byte: u8) -> bool
     ensures { result ≡ (is_letter byte || is_digit byte) }
 {
     is_letter(byte) || (48 <= byte && byte <= 57)
@@ -40,8 +40,8 @@ fn are_letters_or_digits(text: &[u8]) -> bool
     text.iter().all(|byte| is_letter_or_digit(*byte))
 }
 
-/// Whether a text is a letter or `_`, and then letters, digits and `_`.
-fn is_identifier(text: &[u8]) -> bool
+/// Whether a text is a letter or `_`, and then letters, digits and `_`, in ASCII.
+pub fn is_identifier(text: &[u8]) -> bool
     ensures { result ≡ is_identifier text.now }
 {
     match text {

@@ -1,0 +1,11 @@
+//! Texts as lines, and lines as words.
+#![tactic(auto)]
+
+mod blanks;
+mod line;
+
+pub use blanks::{next_word, skip_blanks, trim_blanks};
+pub use line::next_line;
+
+#[cfg(test)]
+mod tests;
