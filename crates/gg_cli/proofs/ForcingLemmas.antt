@@ -25,7 +25,7 @@ use Rattle.need_eval.specs.declared.evaluating.Values.{Values}
 use Rattle.need_eval.specs.Evaluating.{EvaluatesAll}
 use Rattle.need_eval.specs.PartWay.{state_after, IsPartWay, Gives, StopsWith, Stops}
 use Rattle.need_eval.proofs.Growth.{store_is_written}
-use Rattle.gg_cli.specs.Cat.{tool_outcome}
+use Rattle.sandbox_run.specs.Cards.{card_outcome}
 use Rattle.gg_cli.specs.declared.fault.TopFault.{TopFault}
 use Rattle.gg_cli.specs.declared.fault.TopFault.TheVariants as tops
 use Rattle.gg_cli.specs.declared.fault.FilingFault.{FilingFault}
@@ -100,14 +100,14 @@ module _ (e : Ended (List ObjectName)) (before after : Store) (law : (state_afte
 
 module _ (budget : ℕ) (refs : List Ref) (before after : Store) where
   -- `evaluate` gave values
-  pub values_found : (values : Values) → EvaluatesAll (λ job. Unit {0}) tool_outcome budget refs before after (Ok values)
-      → HasValues (values_of (by_function tool_outcome) budget refs (start before)) values.names before after
-  values_found values does = has_values _ before after (store_is_written (by_function tool_outcome) budget refs before) values.names values.steps (does (all_told _))
+  pub values_found : (values : Values) → EvaluatesAll (λ job. Unit {0}) card_outcome budget refs before after (Ok values)
+      → HasValues (values_of (by_function card_outcome) budget refs (start before)) values.names before after
+  values_found values does = has_values _ before after (store_is_written (by_function card_outcome) budget refs before) values.names values.steps (does (all_told _))
 
   -- `evaluate` ended at a fault
-  pub fault_found : (fault : EvalFault) (top : TopFault) → EvaluatesAll (λ job. Unit {0}) tool_outcome budget refs before after (Err fault) → IsFaultOf fault top
-      → (items : List Item) (files : Files) (told : Option (List ℕ)) → EndsAt (forced items (values_of (by_function tool_outcome) budget refs (start before))) (only_store before after files told) top
-  fault_found fault top does is items files told = ends_at _ before after (store_is_written (by_function tool_outcome) budget refs before) items files told fault top (does (all_told _)) is
+  pub fault_found : (fault : EvalFault) (top : TopFault) → EvaluatesAll (λ job. Unit {0}) card_outcome budget refs before after (Err fault) → IsFaultOf fault top
+      → (items : List Item) (files : Files) (told : Option (List ℕ)) → EndsAt (forced items (values_of (by_function card_outcome) budget refs (start before))) (only_store before after files told) top
+  fault_found fault top does is items files told = ends_at _ before after (store_is_written (by_function card_outcome) budget refs before) items files told fault top (does (all_told _)) is
 
 -- ---- the files and the text
 
@@ -166,13 +166,13 @@ module _ (budget : ℕ) (items : List Item) (store : Store) (files files_after :
 module _ (budget : ℕ) (items : List Item) (before now : Store) (files files_after : Files) (same : files_after ≡ files) (refs : List Ref) (found : Result (List Ref) FileRefusal) (is : found ≡ Ok refs) where
   -- the evaluation ended at a fault
   pub values_end : (told : Option (List ℕ)) (fault : TopFault)
-      → ((items : List Item) (files : Files) (told : Option (List ℕ)) → EndsAt (forced items (values_of (by_function tool_outcome) budget refs (start before))) (only_store before now files told) fault)
+      → ((items : List Item) (files : Files) (told : Option (List ℕ)) → EndsAt (forced items (values_of (by_function card_outcome) budget refs (start before))) (only_store before now files told) fault)
       → EndsAt (wanted_forced budget items before found) (handed before now files files_after told told) fault
-  values_end told fault h = rw is (subst (λ (f : Files). EndsAt (forced items (values_of (by_function tool_outcome) budget refs (start before))) (handed before now files f told told) fault) (sym same) (h items files told))
+  values_end told fault h = rw is (subst (λ (f : Files). EndsAt (forced items (values_of (by_function card_outcome) budget refs (start before))) (handed before now files f told told) fault) (sym same) (h items files told))
 
   -- the values were handed out
   pub hands_end : {T : Type 0} (names : List ObjectName) (after : Store) (files_last : Files) (b c : Option (List ℕ)) (r : Result T TopFault)
-      → HasValues (values_of (by_function tool_outcome) budget refs (start before)) names before now → HandsOut names items now after files_after files_last b c r
+      → HasValues (values_of (by_function card_outcome) budget refs (start before)) names before now → HandsOut names items now after files_after files_last b c r
       → Ends (wanted_forced budget items before found) (handed before after files files_last b c) r
   hands_end names after files_last b c r h out =
       let here = subst (λ (f : Files). Ends (handed_out h.last.writes names items (filed now.objects names items)) (handed before after f files_last b c) r) same (out before h.last.writes h.writes) in

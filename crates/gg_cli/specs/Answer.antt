@@ -17,7 +17,7 @@ use Rattle.gg_cli.specs.declared.status.Status.TheVariants as statuses
 use Rattle.gg_cli.specs.declared.words.Command.{Command}
 use Rattle.gg_cli.specs.declared.words.Command.TheVariants.{Force}
 use Rattle.gg_cli.specs.Words.{command_of}
-use Rattle.gg_cli.specs.Cat.{tool_outcome}
+use Rattle.sandbox_run.specs.Cards.{card_outcome}
 use Rattle.gg_cli.specs.Texts.{fault_line, usage_line, stop_text, refusal_text, file_text, value_lines}
 use Rattle.gg_cli.specs.Filing.{Filing, filed}
 
@@ -67,7 +67,7 @@ forced items (Stopped why s) = record { writes = s.writes; changes = []; status 
 -- the answer by the references of the items: they are evaluated, unless an item is refused
 abbrev pub wanted_forced : ℕ → List Item → Store → Result (List Ref) FileRefusal → Answer
 wanted_forced budget items store (Err refusal) = refused statuses.FileRefused (file_text refusal)
-wanted_forced budget items store (Ok refs) = forced items (values_of (by_function tool_outcome) budget refs (start store))
+wanted_forced budget items store (Ok refs) = forced items (values_of (by_function card_outcome) budget refs (start store))
 
 -- the answer of a command, or of words that are none
 abbrev pub answer_of_command : Option Command → Store → Files → Answer

@@ -1,7 +1,5 @@
 pub mod Words
 pub mod Reading
-pub mod Cat
-pub mod CatFits
 pub mod Texts
 pub mod Filing
 pub mod Answer

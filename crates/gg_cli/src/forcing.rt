@@ -5,12 +5,12 @@ ghost use Rattle.thunk_codec.specs.Reference.{IsRef};
 ghost use Rattle.file_tree.specs.Wanted.{IsItem, wanted_of};
 ghost use Rattle.need_eval.specs.Eval.{start};
 ghost use Rattle.need_eval.specs.Evaluation.{values_of, by_function};
-ghost use Rattle.gg_cli.specs.Cat.{tool_outcome};
+ghost use Rattle.sandbox_run.specs.Cards.{card_outcome};
 ghost use Rattle.gg_cli.specs.Answer.{wanted_forced};
 ghost use Rattle.gg_cli.specs.Faults.{IsFaultOf};
 ghost use Rattle.gg_cli.specs.Ending.{Ends, Values, HandsOut, EndCause, kept_counts};
 
-use crate::cat::CatRunner;
+
 use crate::fault::TopFault;
 use crate::filing::write_files;
 use crate::printing::print_values;
@@ -18,6 +18,7 @@ use blob_store::Keeper;
 use file_tree::{Item, Tree, wanted};
 use need_eval::{EvalFault, evaluate};
 use object_name::{Many, Name, Sink, Trouble};
+use sandbox_run::Cards;
 use std::alloc::Global;
 use thunk_codec::Ref;
 
@@ -45,12 +46,12 @@ fn find_values<K: Keeper>(
     retries: u32,
 ) -> Result<Many<Name>, TopFault>
     requires { All IsRef refs }
-    ensures values { K.tells → Values (values_of (by_function tool_outcome) budget refs (start (K.store keeper.old))) (K.store keeper.old) (K.store keeper.new) result }
+    ensures values { K.tells → Values (values_of (by_function card_outcome) budget refs (start (K.store keeper.old))) (K.store keeper.old) (K.store keeper.new) result }
     ensures later { K.faults keeper.old ≤ K.faults keeper.new }
     ensures cause { EndCause retries (kept_counts (K.faults keeper.old) (K.faults keeper.new)) result }
     ensures no_usage { result ≢ Err TopFault.Usage }
 {
-    match evaluate(alloc, keeper, refs, budget, retries, &mut CatRunner) {
+    match evaluate(alloc, keeper, refs, budget, retries, &mut Cards) {
         Ok(values) => Ok(values.names),
         Err(fault) => Err(fault_of(&fault)),
     }

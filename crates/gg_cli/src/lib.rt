@@ -1,7 +1,6 @@
 //! The command line of gg: its words, its answer, and the texts that it prints.
 #![tactic(auto)]
 
-mod cat;
 mod fault;
 mod filing;
 mod forcing;

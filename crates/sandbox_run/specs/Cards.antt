@@ -42,5 +42,5 @@ outcome_by None job = Failed 203
 outcome_by (Some card) job = within_limit (tool_outcome card job)
 
 -- the outcome of a job
-abbrev pub card_outcome : Job → Outcome
+unfoldable pub card_outcome : Job → Outcome
 card_outcome job = outcome_by (card_of job.function) job

@@ -1,6 +1,6 @@
 -- The outcomes of cards fit their jobs.
-use Rattle.std.proofs.Common.{◌≡◌, ◌≤◌, length, Bool, true, false, Option, Some, None, cond, refl, leb-true, lit≤}
-use Rattle.std.specs.Prelude.{List, ℕ, nat_le, sum_by}
+use Rattle.std.proofs.Common.{length, Option, Some, None, leb-true, lit≤}
+use Rattle.std.specs.Prelude.{nat_le, sum_by}
 use Rattle.object_name.specs.Name.{max_size}
 use Rattle.thunk_codec.specs.declared.job.Job.{Job}
 use Rattle.thunk_codec.specs.declared.job.Outcome.{Outcome}
@@ -29,4 +29,5 @@ by_fits (Some card) job = limit_fits job (tool_outcome card job) (tool_fits card
 
 -- each job fits the outcome of its function
 pub cards_fit : (job : Job) → Fits job (card_outcome job)
+unfolding card_outcome
 cards_fit job = by_fits (card_of job.function) job

@@ -72,6 +72,7 @@ impl Function for Cards {
 impl Runner for Cards {
     ghost faults = { λ runner. 0 };
 
+    #[tactic(auto, unfolding(crate::specs::Cards::card_outcome))]
     fn run(&mut self, alloc: Global, job: &Job) -> Result<Outcome, Trouble> {
         Ok(run_card(alloc, Card::of(job.function.as_slice()), job)?)
     }
