@@ -10,7 +10,6 @@ ghost use Rattle.gg_cli.specs.Answer.{wanted_forced};
 ghost use Rattle.gg_cli.specs.Faults.{IsFaultOf};
 ghost use Rattle.gg_cli.specs.Ending.{Ends, Values, HandsOut, EndCause, kept_counts};
 
-
 use crate::fault::TopFault;
 use crate::filing::write_files;
 use crate::printing::print_values;

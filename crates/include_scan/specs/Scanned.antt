@@ -1,0 +1,60 @@
+-- The files that preprocessing a source may read: the least set that has the source and what each of its files may include.
+use Rattle.std.specs.Prelude.{◌≡◌, ℕ, List, [], ◌∷◌, Bool, Option, Some, None, IsTrue, Contains, map, unwrap_or, bytes_eq, if◌then◌else◌}
+use Rattle.std.specs.List.{flat_map, list_any}
+use Rattle.thunk_codec.specs.Job.{input_at}
+use Rattle.text_lines.specs.Lines.{lines_of}
+use Rattle.tool_text.specs.Directive.{Directive, Text, Empty, Include, Define, Undef, Ifdef, Ifndef, If, Else, Endif, Unknown, Target, directive_of}
+use Rattle.tool_text.specs.Expand.{Macros}
+use Rattle.tool_text.specs.Including.{Files, candidates, first_there}
+use Rattle.tool_text.specs.Preprocess.{preprocessed}
+
+-- the file that a directive asks for, if it is an include line and its form says one
+abbrev pub asked_by : Directive → List Target
+asked_by (Include (Some target)) = target ∷ []
+asked_by (Include None) = []
+asked_by Text = []
+asked_by Empty = []
+asked_by (Define macro) = []
+asked_by (Undef name) = []
+asked_by (Ifdef name) = []
+asked_by (Ifndef name) = []
+asked_by (If number) = []
+asked_by (Else of_form) = []
+asked_by (Endif of_form) = []
+asked_by Unknown = []
+
+-- what the include lines of a text ask for, whatever group they stand in
+abbrev pub include_targets : List ℕ → List Target
+include_targets bytes = flat_map (λ line. asked_by (directive_of line)) (lines_of bytes)
+
+-- the bytes at a path
+abbrev pub bytes_at : Files → List ℕ → List ℕ
+bytes_at files path = unwrap_or (files path) []
+
+-- a set of paths that has the source, and for each include line of a member the first candidate that is there
+pub record IsClosed (files : Files) (folders : List (List ℕ)) (source : List ℕ) (is_in : List ℕ → Bool) : Type 0 where
+  pub source_in : IsTrue (is_in source)
+  pub includes_in : (path : List ℕ) → IsTrue (is_in path) → (target : Target) → Contains (include_targets (bytes_at files path)) target
+      → (found : List ℕ) → first_there files (candidates folders path target) ≡ Some found → IsTrue (is_in found)
+
+-- the least such set
+pub record IsScanned (files : Files) (folders : List (List ℕ)) (source : List ℕ) (is_in : List ℕ → Bool) : Type 0 where
+  pub closed : IsClosed files folders source is_in
+  pub least : (other : List ℕ → Bool) → IsClosed files folders source other → (path : List ℕ) → IsTrue (is_in path) → IsTrue (other path)
+
+-- the files of a set alone
+abbrev pub only : (List ℕ → Bool) → Files → Files
+only is_in files = λ path. if is_in path then files path else None
+
+-- whether a path is one of some
+abbrev pub is_among : List (List ℕ) → List ℕ → Bool
+is_among paths path = list_any (bytes_eq path) paths
+
+-- the files at some paths, as the inputs of a job
+abbrev pub inputs_of : Files → List (List ℕ) → List (List ℕ × List ℕ)
+inputs_of files paths = map (λ path. (path, bytes_at files path)) paths
+
+-- preprocessing a source with these files alone as inputs gives what it gives with all files, whatever is defined
+abbrev pub Suffices : Files → List (List ℕ) → List ℕ → List (List ℕ) → Type 0
+Suffices files folders source paths = (macros : Macros) →
+    preprocessed (λ path. input_at path (inputs_of files paths)) folders macros source ≡ preprocessed files folders macros source

@@ -1,0 +1,14 @@
+//! Laws of scanning that no single call shows.
+
+ghost use Rattle.std.specs.Prelude.{◌≡◌, ℕ, List, Bool};
+ghost use Rattle.include_scan.specs.Scanned.{IsClosed, only};
+ghost use Rattle.tool_text.specs.Expand.{Macros};
+ghost use Rattle.tool_text.specs.Including.{Files};
+ghost use Rattle.tool_text.specs.Preprocess.{preprocessed};
+
+/// Preprocessing a source with the files of a set alone that has the source and what each of its files may include gives what it
+/// gives with all files.
+pub fn files_suffice()
+    ensures { (files : Files) (folders : List (List ℕ)) (macros : Macros) (source : List ℕ) (is_in : List ℕ → Bool) → IsClosed files folders source is_in
+        → preprocessed (only is_in files) folders macros source ≡ preprocessed files folders macros source }
+{}
