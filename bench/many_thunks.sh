@@ -12,23 +12,10 @@ make_store() {
     mkdir -p "$folder/$1-$2/.gg/objects"
     cd "$folder/$1-$2"
     python3 - "$1" "$2" <<'END'
-import base64, hashlib, sys
+import sys
+from store import keep, thunk
 
 kind, number = sys.argv[1], int(sys.argv[2])
-
-def keep(data):
-    letter = 'T' if data.startswith(b'gg-thunk ') else 'V'
-    digest = base64.urlsafe_b64encode(hashlib.sha256(data).digest()).decode().rstrip('=')
-    name = '%s%s%08x' % (letter, digest, len(data))
-    with open('.gg/objects/' + name, 'wb') as file:
-        file.write(data)
-    return name
-
-def thunk(inputs, output):
-    lines = ['gg-thunk 1', 'f ' + card]
-    lines += ['i 1:%s %s' % (path, ref) for path, ref in zip('ab', inputs)]
-    lines += ['o %d:%s' % (len(output), output), 'end', '']
-    return keep('\n'.join(lines).encode()) + '#0'
 
 card = keep(b'gg-tool cat\n')
 joined = keep(b'and the same for all\n')
@@ -40,14 +27,14 @@ if kind == 'wide':
         data = b'one of its own, %d\n' % i
         with open('in%d' % i, 'wb') as file:
             file.write(data)
-        items.append(thunk([keep(data), joined], 'out%d' % i))
+        items.append(thunk(card, [], [('a', keep(data)), ('b', joined)], 'out%d' % i))
         rules.append(('out%d' % i, 'in%d joined' % i))
 else:
     ref, empty = joined, keep(b'')
     with open('empty', 'wb') as file:
         pass
     for i in range(number):
-        ref = thunk([ref, empty], 'out%d' % i)
+        ref = thunk(card, [], [('a', ref), ('b', empty)], 'out%d' % i)
         rules.append(('out%d' % i, '%s empty' % ('joined' if i == 0 else 'out%d' % (i - 1))))
     items.append(ref)
 with open('words', 'w') as file:
@@ -65,21 +52,9 @@ with open('build.ninja', 'w') as file:
 END
 }
 
-# Nanoseconds that a command takes.
-took() {
-    from=$(date +%s%N)
-    "$@" >/dev/null
-    echo $(($(date +%s%N) - from))
-}
-
 force() {
     # shellcheck disable=SC2046
     "$gg" force --local $(cat words)
-}
-
-# A ratio with two digits behind the point.
-ratio() {
-    awk "BEGIN { printf \"%.2f\", $1 / $2 }"
 }
 
 # Forces a store fresh and again, and sets fresh and again to the nanoseconds: the least of three runs each.

@@ -2,6 +2,8 @@
 #![tactic(auto)]
 
 #[cfg(test)]
+mod cards;
+#[cfg(test)]
 mod cat;
 #[cfg(test)]
 mod command_lines;
