@@ -39,4 +39,6 @@ pub use thunk::Thunk;
 #[cfg(test)]
 mod folder_tests;
 #[cfg(test)]
+mod making_tests;
+#[cfg(test)]
 mod tests;

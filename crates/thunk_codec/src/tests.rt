@@ -3,18 +3,18 @@ use object_name::{Bytes, Many, TryCopy};
 use std::alloc::Global;
 use std::test::*;
 
-const FUNCTION: &[u8] = b"VkU_0qI-jaxktmjRiZaXqmNdWhWCmVYh8huuzG8-Zhjg0000000c";
+pub const FUNCTION: &[u8] = b"VkU_0qI-jaxktmjRiZaXqmNdWhWCmVYh8huuzG8-Zhjg0000000c";
 
-const AB: &[u8] = b"V-44g_C5MPySMYMOb1lLzwTRymLuXe4tNWQO4UFViBgM00000002";
+pub const AB: &[u8] = b"V-44g_C5MPySMYMOb1lLzwTRymLuXe4tNWQO4UFViBgM00000002";
 
 const EMPTY: &[u8] = b"V47DEQpj8HBSa-_TImW-5JCeuQeRkm5NMpJWZG3hSuFU00000000";
 
-const C: &[u8] = b"VLn0sA6lQeuJl7PW1NWiFpTOTogKdJBOUmXJloaJa78Y00000001";
+pub const C: &[u8] = b"VLn0sA6lQeuJl7PW1NWiFpTOTogKdJBOUmXJloaJa78Y00000001";
 
-const OUTPUT: &[u8] = b"TIleAA7uMt28irpGXVG9w-24p1WzhEWDiO1nv5alY1w4000000ff#0";
+pub const OUTPUT: &[u8] = b"TIleAA7uMt28irpGXVG9w-24p1WzhEWDiO1nv5alY1w4000000ff#0";
 
 /// The text of a thunk that joins three inputs, of which these are the lines behind the function's.
-fn text_with(alloc: Global, lines: &[&[u8]]) -> Result<Bytes, Fail> {
+pub fn text_with(alloc: Global, lines: &[&[u8]]) -> Result<Bytes, Fail> {
     let mut text = Bytes::from_slice(alloc, b"gg-thunk 1\nf ")?;
     text.append(FUNCTION)?;
     text.append(b"\n")?;
@@ -143,14 +143,14 @@ fn references_are_spelled_again(rt: HostRuntime) -> Result<(), Fail> {
 }
 
 /// A thunk without arguments, environment and inputs.
-fn make_plain(alloc: Global, function: Ref, outputs: Many<Path>) -> Result<Thunk, MakeFault> {
+pub fn make_plain(alloc: Global, function: Ref, outputs: Many<Path>) -> Result<Thunk, MakeFault> {
     let args = Many::new(alloc);
     let envs = Many::new(alloc);
     let inputs = Many::new(alloc);
     Thunk::make(alloc, function, args, envs, inputs, outputs)
 }
 
-fn one_path(alloc: Global, text: &[u8]) -> Result<Many<Path>, Fail> {
+pub fn one_path(alloc: Global, text: &[u8]) -> Result<Many<Path>, Fail> {
     let path = Path::read(alloc, text)?.ok_or("there is a path")?;
     let mut paths = Many::new(alloc);
     paths.push(path)?;
