@@ -4,3 +4,9 @@ pub mod Cat
 pub mod Fail
 pub mod Add
 pub mod Fib
+pub mod Trying
+pub mod Directive
+pub mod Expand
+pub mod Including
+pub mod Preprocess
+pub mod Cpp

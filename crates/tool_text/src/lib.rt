@@ -4,6 +4,7 @@
 mod add_tool;
 mod cat_tool;
 mod fail_tool;
+mod failure;
 mod fib_thunks;
 mod fib_tool;
 pub mod laws;
@@ -13,6 +14,7 @@ mod status;
 pub use add_tool::add;
 pub use cat_tool::cat;
 pub use fail_tool::fail;
+pub use failure::Failure;
 pub use fib_tool::fib;
 
 #[cfg(test)]

@@ -1,0 +1,10 @@
+use Rattle.std.proofs.Common.{rules, ◌≡◌, subst}
+use Rattle.thunk_codec.specs.Outcome.{Fits}
+use Rattle.sandbox_run.specs.Cards.{card_outcome}
+use Rattle.sandbox_run.specs.CardsFit.{cards_fit}
+use Rattle.sandbox_run.proofs.cards.CardsRunner.run.Goals as goal
+
+pub returns-clause-fits : goal.returns-clause-fits
+returns-clause-fits c =
+    let same : card_outcome c.args.job.now ≡ c.in_ok-run_card.field-0 = search rules in
+    subst (Fits c.args.job.now) same (cards_fit c.args.job.now)

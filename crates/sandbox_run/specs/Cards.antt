@@ -1,0 +1,46 @@
+-- The function of jobs that cards give: each job is the work of the tool whose card its function is.
+use Rattle.std.specs.Prelude.{ℕ, List, [], ◌∷◌, ◌++◌, Option, Some, None, nat_le, sum_by, length, bytes_eq, codes, if◌then◌else◌}
+use Rattle.object_name.specs.Name.{max_size}
+use Rattle.thunk_codec.specs.declared.job.Job.{Job}
+use Rattle.thunk_codec.specs.declared.job.Outcome.{Outcome}
+use Rattle.thunk_codec.specs.declared.job.Outcome.TheVariants.{Done, Failed}
+use Rattle.tool_text.specs.Add.{add_outcome}
+use Rattle.tool_text.specs.Cat.{cat_outcome}
+use Rattle.tool_text.specs.Fail.{fail_outcome}
+use Rattle.tool_text.specs.Fib.{fib_outcome}
+use Rattle.sandbox_run.specs.declared.card.Card.{Card}
+use Rattle.sandbox_run.specs.declared.card.Card.TheVariants.{Add, Cat, Fail, Fib}
+
+-- the function bytes of a card: `gg-tool `, its name and a line feed
+abbrev pub card_text : List ℕ → List ℕ
+card_text name = codes "gg-tool " ++ (name ++ 10 ∷ [])
+
+-- the card that function bytes are
+unfoldable pub card_of : List ℕ → Option Card
+card_of function =
+    if bytes_eq function (card_text (codes "cat")) then Some Cat
+    else if bytes_eq function (card_text (codes "add")) then Some Add
+    else if bytes_eq function (card_text (codes "fib")) then Some Fib
+    else if bytes_eq function (card_text (codes "fail")) then Some Fail
+    else None
+
+-- what a card's tool gives
+abbrev pub tool_outcome : Card → Job → Outcome
+tool_outcome Cat job = cat_outcome job
+tool_outcome Add job = add_outcome job
+tool_outcome Fib job = fib_outcome job
+tool_outcome Fail job = fail_outcome job
+
+-- status 201 in the place of outputs that are together over the size of an object
+abbrev pub within_limit : Outcome → Outcome
+within_limit (Done outputs) = if nat_le (sum_by length outputs) max_size then Done outputs else Failed 201
+within_limit (Failed status) = Failed status
+
+-- the outcome of a card; a function that is no card has status 203
+abbrev pub outcome_by : Option Card → Job → Outcome
+outcome_by None job = Failed 203
+outcome_by (Some card) job = within_limit (tool_outcome card job)
+
+-- the outcome of a job
+abbrev pub card_outcome : Job → Outcome
+card_outcome job = outcome_by (card_of job.function) job

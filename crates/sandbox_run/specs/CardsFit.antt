@@ -1,0 +1,32 @@
+-- The outcomes of cards fit their jobs.
+use Rattle.std.proofs.Common.{◌≡◌, ◌≤◌, length, Bool, true, false, Option, Some, None, cond, refl, leb-true, lit≤}
+use Rattle.std.specs.Prelude.{List, ℕ, nat_le, sum_by}
+use Rattle.object_name.specs.Name.{max_size}
+use Rattle.thunk_codec.specs.declared.job.Job.{Job}
+use Rattle.thunk_codec.specs.declared.job.Outcome.{Outcome}
+use Rattle.thunk_codec.specs.declared.job.Outcome.TheVariants.{Done, Failed}
+use Rattle.thunk_codec.specs.Outcome.{Fits}
+use Rattle.tool_text.proofs.Fitting.{FitsWithin, of_choice, cat_fits, add_fits, fib_fits, fail_fits}
+use Rattle.sandbox_run.specs.declared.card.Card.{Card}
+use Rattle.sandbox_run.specs.declared.card.Card.TheVariants.{Add, Cat, Fail, Fib}
+use Rattle.sandbox_run.specs.Cards.{card_of, tool_outcome, within_limit, outcome_by, card_outcome}
+
+-- what a tool gives fits its job, where the outputs are within the limit
+tool_fits : (card : Card) (job : Job) → FitsWithin job (tool_outcome card job)
+tool_fits Cat job = cat_fits job
+tool_fits Add job = add_fits job
+tool_fits Fib job = fib_fits job
+tool_fits Fail job = λ _. fail_fits job
+
+limit_fits : (job : Job) (outcome : Outcome) → FitsWithin job outcome → Fits job (within_limit outcome)
+limit_fits job (Done outputs) fits =
+    of_choice (Fits job) (nat_le (sum_by length outputs) max_size) _ _ (λ small. fits (leb-true (sum_by length outputs) max_size small)) (lit≤ tt, lit≤ tt)
+limit_fits job (Failed status) fits = fits tt
+
+by_fits : (card : Option Card) (job : Job) → Fits job (outcome_by card job)
+by_fits None job = (lit≤ tt, lit≤ tt)
+by_fits (Some card) job = limit_fits job (tool_outcome card job) (tool_fits card job)
+
+-- each job fits the outcome of its function
+pub cards_fit : (job : Job) → Fits job (card_outcome job)
+cards_fit job = by_fits (card_of job.function) job

@@ -1,0 +1,51 @@
+//! The cards.
+
+ghost use Rattle.std.specs.Prelude.{◌≡◌, IfOk};
+ghost use Rattle.sandbox_run.specs.Cards.{card_of, tool_outcome};
+
+use std::alloc::{AllocError, Global};
+use thunk_codec::{Job, Outcome};
+use tool_text::{add, cat, fail, fib};
+
+/// A tool that runs here.
+#[derive(Clone, Copy, Debug, PartialEq, Eq)]
+pub(crate) enum Card {
+    Add,
+    Cat,
+    Fail,
+    Fib,
+}
+
+impl Card {
+    /// The card that function bytes are.
+    #[tactic(auto, unfolding(crate::specs::Cards::card_of))]
+    pub(crate) fn of(function: &[u8]) -> Option<Card>
+        ensures { result ≡ card_of function.now }
+    {
+        if function == b"gg-tool cat\n".as_slice() {
+            return Some(Card::Cat);
+        }
+        if function == b"gg-tool add\n".as_slice() {
+            return Some(Card::Add);
+        }
+        if function == b"gg-tool fib\n".as_slice() {
+            return Some(Card::Fib);
+        }
+        if function == b"gg-tool fail\n".as_slice() {
+            return Some(Card::Fail);
+        }
+        None
+    }
+
+    /// What the tool gives, however long its outputs are.
+    pub(crate) fn run(self, alloc: Global, job: &Job) -> Result<Outcome, AllocError>
+        ensures { IfOk result (λ outcome. outcome ≡ tool_outcome self job.now) }
+    {
+        match self {
+            Card::Add => add(alloc, job),
+            Card::Cat => cat(alloc, job),
+            Card::Fail => fail(alloc, job),
+            Card::Fib => fib(alloc, job),
+        }
+    }
+}
