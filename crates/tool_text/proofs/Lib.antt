@@ -1,3 +1,4 @@
 pub mod Fitting
 pub mod ThunkTexts
 pub mod GivenThunks
+pub mod RunLengths

@@ -8,5 +8,7 @@ pub mod Trying
 pub mod Directive
 pub mod Expand
 pub mod Including
+pub mod IncludeLine
+pub mod Seen
 pub mod Preprocess
 pub mod Cpp

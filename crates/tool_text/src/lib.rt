@@ -3,19 +3,24 @@
 
 mod add_tool;
 mod cat_tool;
+mod directive;
 mod fail_tool;
 mod failure;
 mod fib_thunks;
 mod fib_tool;
+mod include_lines;
 pub mod laws;
 mod numbers;
+mod runs;
 mod status;
 
 pub use add_tool::add;
 pub use cat_tool::cat;
+pub use directive::Target;
 pub use fail_tool::fail;
 pub use failure::Failure;
 pub use fib_tool::fib;
+pub use include_lines::{IncludeLine, include_line};
 
 #[cfg(test)]
 mod tests;
