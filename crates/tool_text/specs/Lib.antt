@@ -5,8 +5,10 @@ pub mod Fail
 pub mod Add
 pub mod Fib
 pub mod Trying
+pub mod Tries
 pub mod Directive
 pub mod Expand
+pub mod MacroTable
 pub mod Including
 pub mod IncludeLine
 pub mod Seen

@@ -4,15 +4,18 @@
 mod add_tool;
 mod cat_tool;
 mod directive;
+mod expanding;
 mod fail_tool;
 mod failure;
 mod fib_thunks;
 mod fib_tool;
 mod include_lines;
 pub mod laws;
+mod macros;
 mod numbers;
 mod runs;
 mod status;
+mod stopped;
 
 pub use add_tool::add;
 pub use cat_tool::cat;
