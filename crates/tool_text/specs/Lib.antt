@@ -12,5 +12,6 @@ pub mod MacroTable
 pub mod Including
 pub mod IncludeLine
 pub mod Seen
+pub mod OpenGroups
 pub mod Preprocess
 pub mod Cpp

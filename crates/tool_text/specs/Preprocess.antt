@@ -5,6 +5,7 @@ use Rattle.object_name.specs.Name.{max_size}
 use Rattle.text_lines.specs.Lines.{lines_of}
 use Rattle.tool_text.specs.declared.failure.Failure.{Failure}
 use Rattle.tool_text.specs.declared.failure.Failure.TheVariants.{BadDirective, HeaderNotFound, TooDeep, TooManyLines, OutputTooLong}
+use Rattle.tool_text.specs.declared.groups.Group.{Group}
 use Rattle.tool_text.specs.Directive.{Directive, Text, Empty, Include, Define, Undef, Ifdef, Ifndef, If, Else, Endif, Unknown, Target, directive_of}
 use Rattle.tool_text.specs.Expand.{Macros, with_macro, expanded}
 use Rattle.tool_text.specs.Including.{Files, candidates, first_there}
@@ -15,12 +16,6 @@ pub record State : Type 0 where
   pub macros : Macros
   pub count : ℕ
   pub out : List ℕ
-
--- a group of lines: whether what stands around it is active, whether it is itself, and whether its `else` was met
-pub record Group : Type 0 where
-  pub around : Bool
-  pub active : Bool
-  pub had_else : Bool
 
 -- what a line leaves: the open groups of its file, the innermost first, the state, and the file that is to be processed in its place
 pub record Taken : Type 0 where

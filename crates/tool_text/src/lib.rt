@@ -9,6 +9,7 @@ mod fail_tool;
 mod failure;
 mod fib_thunks;
 mod fib_tool;
+mod groups;
 mod include_lines;
 pub mod laws;
 mod macros;
