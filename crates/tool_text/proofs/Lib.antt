@@ -4,3 +4,4 @@ pub mod GivenThunks
 pub mod RunLengths
 pub mod MacroLemmas
 pub mod Expansions
+pub mod Writing

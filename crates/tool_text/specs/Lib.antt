@@ -14,4 +14,5 @@ pub mod IncludeLine
 pub mod Seen
 pub mod OpenGroups
 pub mod Preprocess
+pub mod Standing
 pub mod Cpp

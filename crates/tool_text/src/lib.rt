@@ -1,6 +1,7 @@
 //! The cards that work on bytes and numbers: each a function of its job.
 #![tactic(auto)]
 
+mod acting;
 mod add_tool;
 mod cat_tool;
 mod directive;
@@ -15,6 +16,7 @@ pub mod laws;
 mod macros;
 mod numbers;
 mod runs;
+mod state;
 mod status;
 mod stopped;
 
