@@ -5,3 +5,5 @@ pub mod RunLengths
 pub mod MacroLemmas
 pub mod Expansions
 pub mod Writing
+pub mod SystemFolder
+pub mod FileLines

@@ -1,13 +1,11 @@
 -- A line that is written, against the limit of the output.
-use Rattle.std.proofs.Common.{◌≡◌, ℕ, ◌<◌, ◌≤◌, ◌+◌, Bool, true, false, List, [], ◌∷◌, ◌++◌, length, Ok, Err, Result, refl, sym, ap, ◌∙◌, append_assoc, length-append, arith}
-use Rattle.std.specs.Prelude.{nat_le}
+use Rattle.std.proofs.Common.{◌≡◌, ℕ, ◌<◌, ◌≤◌, List, [], ◌∷◌, ◌++◌, length, Ok, Err, refl, sym, ap, ◌∙◌, append_assoc, length-append, arith}
 use Rattle.std.proofs.lemmas.Bool.{le-leb, lt-leb}
 use Rattle.object_name.specs.Name.{max_size}
-use Rattle.tool_text.specs.declared.failure.Failure.{Failure}
 use Rattle.tool_text.specs.declared.failure.Failure.TheVariants.{OutputTooLong}
 use Rattle.tool_text.specs.declared.stopped.Stopped.{Stopped}
 use Rattle.tool_text.specs.declared.stopped.Stopped.TheVariants.{Failed, Memory}
-use Rattle.tool_text.specs.Expand.{Macros, expanded}
+use Rattle.tool_text.specs.Expand.{expanded}
 use Rattle.tool_text.specs.Preprocess.{State, written}
 use Rattle.tool_text.specs.Tries.{Stops, StopsAbove}
 

@@ -120,14 +120,15 @@ ran follow [] groups state = closed groups state
 ran follow (line ∷ lines) groups state = taken line groups state >>= λ now.
     followed follow now.target now.state >>= λ next. ran follow lines now.groups next
 
--- a file entered, where it was found
-abbrev pub entered : (List ℕ → State → Result State Failure) → Option (List ℕ) → State → Result State Failure
-entered enter None state = Err HeaderNotFound
-entered enter (Some path) state = enter path state
+-- the path of a file that was found
+abbrev pub found_or_not : Option (List ℕ) → Result (List ℕ) Failure
+found_or_not None = Err HeaderNotFound
+found_or_not (Some path) = Ok path
 
 -- a file that is processed in the place of a line: looked for, then entered
 abbrev pub going_into : (List ℕ → State → Result State Failure) → Files → List (List ℕ) → List ℕ → Target → State → Result State Failure
-going_into enter files folders path target state = entered enter (first_there files (candidates folders path target)) state
+going_into enter files folders path target state =
+    found_or_not (first_there files (candidates folders path target)) >>= λ found. enter found state
 
 -- a file, with so many levels of files that may still be entered, itself counted
 abbrev pub processed : Files → List (List ℕ) → ℕ → List ℕ → State → Result State Failure

@@ -1,5 +1,5 @@
 -- How far preprocessing has come, as code holds it.
-use Rattle.std.specs.Prelude.{ℕ, List, Option}
+use Rattle.std.specs.Prelude.{Option}
 use Rattle.std.specs.Option.{option_map}
 use Rattle.tool_text.specs.declared.groups.Groups.{Groups}
 use Rattle.tool_text.specs.declared.directive.Target.{Target as Borrowed}
