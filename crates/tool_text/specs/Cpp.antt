@@ -13,6 +13,7 @@ use Rattle.tool_text.specs.declared.failure.Failure.{Failure}
 use Rattle.tool_text.specs.declared.failure.Failure.TheVariants.{BadDirective, HeaderNotFound, TooDeep, TooManyLines, OutputTooLong}
 use Rattle.tool_text.specs.Directive.{before_byte}
 use Rattle.tool_text.specs.Expand.{Macros, with_macro}
+use Rattle.tool_text.specs.Including.{files_of}
 use Rattle.tool_text.specs.Preprocess.{State, preprocessed}
 
 -- the include folders and the definitions that arguments give
@@ -73,7 +74,7 @@ result_outcome (Err failure) = Failed (failure_status failure)
 abbrev pub outcome_with : Job → List ℕ → Option Settings → Outcome
 outcome_with job source None = Failed 64
 outcome_with job source (Some settings) =
-    result_outcome (preprocessed (λ path. input_at path job.inputs) settings.folders settings.macros source)
+    result_outcome (preprocessed (files_of job) settings.folders settings.macros source)
 
 -- the first argument is the path of the source, which is an input
 abbrev pub arguments_outcome : Job → List (List ℕ) → Outcome

@@ -5,8 +5,14 @@ pub mod Fail
 pub mod Add
 pub mod Fib
 pub mod Trying
+pub mod Tries
 pub mod Directive
 pub mod Expand
+pub mod MacroTable
 pub mod Including
+pub mod IncludeLine
+pub mod Seen
+pub mod OpenGroups
 pub mod Preprocess
+pub mod Standing
 pub mod Cpp

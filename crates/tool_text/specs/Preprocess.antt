@@ -5,6 +5,7 @@ use Rattle.object_name.specs.Name.{max_size}
 use Rattle.text_lines.specs.Lines.{lines_of}
 use Rattle.tool_text.specs.declared.failure.Failure.{Failure}
 use Rattle.tool_text.specs.declared.failure.Failure.TheVariants.{BadDirective, HeaderNotFound, TooDeep, TooManyLines, OutputTooLong}
+use Rattle.tool_text.specs.declared.groups.Group.{Group}
 use Rattle.tool_text.specs.Directive.{Directive, Text, Empty, Include, Define, Undef, Ifdef, Ifndef, If, Else, Endif, Unknown, Target, directive_of}
 use Rattle.tool_text.specs.Expand.{Macros, with_macro, expanded}
 use Rattle.tool_text.specs.Including.{Files, candidates, first_there}
@@ -15,12 +16,6 @@ pub record State : Type 0 where
   pub macros : Macros
   pub count : ℕ
   pub out : List ℕ
-
--- a group of lines: whether what stands around it is active, whether it is itself, and whether its `else` was met
-pub record Group : Type 0 where
-  pub around : Bool
-  pub active : Bool
-  pub had_else : Bool
 
 -- what a line leaves: the open groups of its file, the innermost first, the state, and the file that is to be processed in its place
 pub record Taken : Type 0 where
@@ -125,14 +120,15 @@ ran follow [] groups state = closed groups state
 ran follow (line ∷ lines) groups state = taken line groups state >>= λ now.
     followed follow now.target now.state >>= λ next. ran follow lines now.groups next
 
--- a file entered, where it was found
-abbrev pub entered : (List ℕ → State → Result State Failure) → Option (List ℕ) → State → Result State Failure
-entered enter None state = Err HeaderNotFound
-entered enter (Some path) state = enter path state
+-- the path of a file that was found
+abbrev pub found_or_not : Option (List ℕ) → Result (List ℕ) Failure
+found_or_not None = Err HeaderNotFound
+found_or_not (Some path) = Ok path
 
 -- a file that is processed in the place of a line: looked for, then entered
 abbrev pub going_into : (List ℕ → State → Result State Failure) → Files → List (List ℕ) → List ℕ → Target → State → Result State Failure
-going_into enter files folders path target state = entered enter (first_there files (candidates folders path target)) state
+going_into enter files folders path target state =
+    found_or_not (first_there files (candidates folders path target)) >>= λ found. enter found state
 
 -- a file, with so many levels of files that may still be entered, itself counted
 abbrev pub processed : Files → List (List ℕ) → ℕ → List ℕ → State → Result State Failure
