@@ -25,10 +25,14 @@ pub record Settings : Type 0 where
 abbrev pub no_settings : Settings
 no_settings = record { folders = []; macros = λ name. None }
 
+-- the folder of a text that is one as it stands
+abbrev pub folder_as_is : List ℕ → Option (List ℕ)
+folder_as_is text = if is_folder text then Some text else None
+
 -- one more include folder, behind the others
 abbrev pub with_folder : List ℕ → Settings → Option Settings
-with_folder folder settings = do
-  check (is_folder folder)
+with_folder text settings = do
+  folder ← folder_as_is text
   Some (record settings { folders = settings.folders ++ folder ∷ [] })
 
 -- one more definition: an identifier, `=` and its text

@@ -16,3 +16,4 @@ pub mod OpenGroups
 pub mod Preprocess
 pub mod Standing
 pub mod Cpp
+pub mod Arguments

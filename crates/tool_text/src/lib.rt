@@ -4,6 +4,7 @@
 mod acting;
 mod add_tool;
 mod cat_tool;
+mod cpp_tool;
 mod directive;
 mod expanding;
 mod fail_tool;
@@ -18,17 +19,20 @@ mod macros;
 mod numbers;
 mod processing;
 mod runs;
+mod settings;
 mod state;
 mod status;
 mod stopped;
 
 pub use add_tool::add;
 pub use cat_tool::cat;
+pub use cpp_tool::cpp;
 pub use directive::Target;
 pub use fail_tool::fail;
 pub use failure::Failure;
 pub use fib_tool::fib;
 pub use include_lines::{IncludeLine, include_line};
+pub use including::candidates;
 
 #[cfg(test)]
 mod tests;

@@ -1,6 +1,6 @@
 //! Runs of bytes at the front of a text.
 
-ghost use Rattle.std.specs.Prelude.{◌≡◌, ◌==◌, not};
+ghost use Rattle.std.specs.Prelude.{◌≡◌, ◌<◌, not, length, IfSome};
 ghost use Rattle.std.specs.List.{take_while, prefix_len};
 ghost use Rattle.std.specs.Option.{option_copied};
 ghost use Rattle.tool_text.specs.Directive.{behind_while, is_alphabetic, is_word_byte, before_byte, behind_byte};
@@ -72,7 +72,8 @@ pub(crate) fn split_other(text: &[u8]) -> (&[u8], &[u8])
 
 /// What stands in front of the first such byte, where there is one.
 pub(crate) fn before_byte(byte: u8, text: &[u8]) -> Option<&[u8]>
-    ensures { option_copied result ≡ before_byte byte text.now }
+    ensures found { option_copied result ≡ before_byte byte text.now }
+    ensures within { IfSome result (λ front. length front.now < length text.now) }
 {
     for (i, other) in text.iter().enumerate() {
         if *other == byte {
