@@ -1,6 +1,6 @@
 -- Preprocessing with the files of a closed set alone agrees with preprocessing with all files.
-use Rattle.std.proofs.Common.{◌≡◌, ℕ, suc, zero, List, [], ◌∷◌, ◌++◌, Bool, true, false, Option, Some, None, Result, Ok, Err, IsTrue, refl, sym, trans, cong}
-use Rattle.std.specs.Prelude.{Contains, unwrap_or}
+use Rattle.std.proofs.Common.{◌≡◌, ℕ, suc, zero, List, [], ◌∷◌, ◌++◌, Bool, true, false, Option, Some, None, Result, Ok, Err, IsTrue, refl, sym, ap, ◌∙◌}
+use Rattle.std.specs.Prelude.{Contains, unwrap_or, if◌then◌else◌}
 use Rattle.std.specs.List.{flat_map}
 use Rattle.std.specs.Option.{is_some}
 use Rattle.std.proofs.lemmas.List.Elements.{Contains-append_left, Contains-append_right}
@@ -26,33 +26,96 @@ module _ (f g : Target → State → Result State Failure) where
 
   bound_agree : (rest_f rest_g : State → Result State Failure) → ((state : State) → rest_f state ≡ rest_g state) → (first_f first_g : Result State Failure) → first_f ≡ first_g
       → (first_f >>= rest_f) ≡ (first_g >>= rest_g)
-  bound_agree rest_f rest_g rests (Err failure) first_g same = rw (sym same) in refl
-  bound_agree rest_f rest_g rests (Ok state) first_g same = rw (sym same) in rests state
+  bound_agree rest_f rest_g rests (Err failure) first_g same = rw (sym same) refl
+  bound_agree rest_f rest_g rests (Ok state) first_g same = rw (sym same) (rests state)
 
-  mut
-    -- two ways of following that agree on what the lines ask for give the same
-    pub ran_agree : (lines : List (List ℕ)) → AgreeOn (flat_map (λ line. asked_by (directive_of line)) lines) f g → (groups : List Group) (state : State)
-        → ran f lines groups state ≡ ran g lines groups state
-    ran_agree [] agree groups state = refl
-    ran_agree (line ∷ lines) agree groups state = line_agree line lines agree (taken line groups state) (taken_goes line groups state)
+  line_agree : (line : List ℕ) (lines : List (List ℕ)) → AgreeOn (flat_map (λ line. asked_by (directive_of line)) (line ∷ lines)) f g
+      → ((groups : List Group) (state : State) → ran f lines groups state ≡ ran g lines groups state)
+      → (now : Result Taken Failure) → GoesInto (asked_by (directive_of line)) now
+      → (now >>= λ now. followed f now.target now.state >>= λ next. ran f lines now.groups next)
+          ≡ (now >>= λ now. followed g now.target now.state >>= λ next. ran g lines now.groups next)
+  line_agree line lines agree rests (Err failure) goes = refl
+  line_agree line lines agree rests (Ok now) goes =
+      bound_agree (λ next. ran f lines now.groups next) (λ next. ran g lines now.groups next) (rests now.groups)
+          _ _ (followed_agree (asked_by (directive_of line)) (λ target among state. agree target (Contains-append_left _ (flat_map (λ line. asked_by (directive_of line)) lines) target among) state) now.target goes now.state)
 
-    line_agree : (line : List ℕ) (lines : List (List ℕ)) → AgreeOn (flat_map (λ line. asked_by (directive_of line)) (line ∷ lines)) f g
-        → (now : Result Taken Failure) → GoesInto (asked_by (directive_of line)) now
-        → (now >>= λ now. followed f now.target now.state >>= λ next. ran f lines now.groups next)
-            ≡ (now >>= λ now. followed g now.target now.state >>= λ next. ran g lines now.groups next)
-    line_agree line lines agree (Err failure) goes = refl
-    line_agree line lines agree (Ok now) goes =
-        bound_agree (λ next. ran f lines now.groups next) (λ next. ran g lines now.groups next)
-            (λ next. ran_agree lines (λ target among state. agree target (Contains-append_right (asked_by (directive_of line)) _ target among) state) now.groups next)
-            _ _ (followed_agree (asked_by (directive_of line)) (λ target among state. agree target (Contains-append_left _ (flat_map (λ line. asked_by (directive_of line)) lines) target among) state) now.target goes now.state)
+  -- two ways of following that agree on what the lines ask for give the same
+  pub ran_agree : (lines : List (List ℕ)) → AgreeOn (flat_map (λ line. asked_by (directive_of line)) lines) f g → (groups : List Group) (state : State)
+      → ran f lines groups state ≡ ran g lines groups state
+  ran_agree [] agree groups state = refl
+  ran_agree (line ∷ lines) agree groups state = line_agree line lines agree
+      (ran_agree lines (λ target among state. agree target (Contains-append_right (asked_by (directive_of line)) _ target among) state))
+      (taken line groups state) (taken_goes line groups state)
 
--- the file at a path of a set, and the first of some places that are there
+-- what holds in each case of an optional value
+by_option : {A : Type 0} {P : Type 0} (x : Option A) → (x ≡ None → P) → ((value : A) → x ≡ Some value → P) → P
+by_option None none some = none refl
+by_option (Some value) none some = some value refl
+
+if_either : {A : Type 0} (test : Bool) (x : A) → (if test then x else x) ≡ x
+if_either true x = refl
+if_either false x = refl
+
 module _ (files : Files) (is_in : List ℕ → Bool) where
   only_in : (path : List ℕ) → IsTrue (is_in path) → only is_in files path ≡ files path
-  only_in path inside = rw inside in refl
+  only_in path inside = ap (λ test. if test then files path else None) inside
 
   only_absent : (path : List ℕ) → files path ≡ None → only is_in files path ≡ None
-  only_absent path absent = by_test (is_in path) where
-    by_test : (test : Bool) → (if test then files path else None) ≡ None
-    by_test true = absent
-    by_test false = refl
+  only_absent path absent = ap (λ file. if is_in path then file else None) absent ∙ if_either (is_in path) None
+
+  -- what is found first is in the set
+  abbrev IsInside : List (Option (List ℕ)) → Type 0
+  IsInside places = (found : List ℕ) → first_there files places ≡ Some found → IsTrue (is_in found)
+
+  first_absent : (path : List ℕ) (places : List (Option (List ℕ))) → IsInside (Some path ∷ places)
+      → (IsInside places → first_there (only is_in files) places ≡ first_there files places)
+      → files path ≡ None → first_there (only is_in files) (Some path ∷ places) ≡ first_there files (Some path ∷ places)
+  first_absent path places inside others absent =
+      let all : first_there files (Some path ∷ places) ≡ first_there files places = ap (λ file. if is_some file then Some path else first_there files places) absent in
+      let some : first_there (only is_in files) (Some path ∷ places) ≡ first_there (only is_in files) places =
+          ap (λ file. if is_some file then Some path else first_there (only is_in files) places) (only_absent path absent) in
+      some ∙ (others (λ found is. inside found (all ∙ is)) ∙ sym all)
+
+  first_present : (path : List ℕ) (places : List (Option (List ℕ))) → IsInside (Some path ∷ places)
+      → (bytes : List ℕ) → files path ≡ Some bytes → first_there (only is_in files) (Some path ∷ places) ≡ first_there files (Some path ∷ places)
+  first_present path places inside bytes present =
+      let all : first_there files (Some path ∷ places) ≡ Some path = ap (λ file. if is_some file then Some path else first_there files places) present in
+      let some : first_there (only is_in files) (Some path ∷ places) ≡ Some path =
+          ap (λ file. if is_some file then Some path else first_there (only is_in files) places) (only_in path (inside path all) ∙ present) in
+      some ∙ sym all
+
+  -- the first of some places is the same, where it is in the set
+  first_only : (places : List (Option (List ℕ))) → IsInside places → first_there (only is_in files) places ≡ first_there files places
+  first_only [] inside = refl
+  first_only (None ∷ places) inside = first_only places inside
+  first_only (Some path ∷ places) inside = by_option (files path) (first_absent path places inside (first_only places)) (first_present path places inside)
+
+module _ (files : Files) (folders : List (List ℕ)) (source : List ℕ) (is_in : List ℕ → Bool) (is_closed : IsClosed files folders source is_in) where
+  -- a file of the set is entered in the same way
+  entered_agree : (enter_some enter_all : List ℕ → State → Result State Failure) → ((path : List ℕ) → IsTrue (is_in path) → (state : State) → enter_some path state ≡ enter_all path state)
+      → (found : Option (List ℕ)) → ((path : List ℕ) → found ≡ Some path → IsTrue (is_in path)) → (state : State)
+      → entered enter_some found state ≡ entered enter_all found state
+  entered_agree enter_some enter_all agree None inside state = refl
+  entered_agree enter_some enter_all agree (Some path) inside state = agree path (inside path refl) state
+
+  going_agree : (levels : ℕ) → ((path : List ℕ) → IsTrue (is_in path) → (state : State) → processed (only is_in files) folders levels path state ≡ processed files folders levels path state)
+      → (path : List ℕ) → IsTrue (is_in path) → AgreeOn (include_targets (bytes_at files path))
+      (going_into (λ found now. processed (only is_in files) folders levels found now) (only is_in files) folders path)
+      (going_into (λ found now. processed files folders levels found now) files folders path)
+  going_agree levels below path inside target among state =
+      let reached : (found : List ℕ) → first_there files (candidates folders path target) ≡ Some found → IsTrue (is_in found) = is_closed.includes_in path inside target among in
+      ap (λ found. entered (λ found now. processed (only is_in files) folders levels found now) found state) (first_only files is_in (candidates folders path target) reached)
+          ∙ entered_agree _ _ below (first_there files (candidates folders path target)) reached state
+
+  -- a file of the set gives the same
+  processed_agree : (levels : ℕ) (path : List ℕ) → IsTrue (is_in path) → (state : State)
+      → processed (only is_in files) folders levels path state ≡ processed files folders levels path state
+  processed_agree zero path inside state = refl
+  processed_agree (suc levels) path inside state =
+      ap (λ file. ran (going_into (λ found now. processed (only is_in files) folders levels found now) (only is_in files) folders path) (lines_of (unwrap_or file [])) [] state) (only_in files is_in path inside)
+          ∙ ran_agree _ _ (lines_of (bytes_at files path)) (going_agree levels (processed_agree levels) path inside) [] state
+
+  -- preprocessing with the files of the set alone gives the same
+  pub preprocessed_agree : (macros : Macros) → preprocessed (only is_in files) folders macros source ≡ preprocessed files folders macros source
+  unfolding preprocessed
+  preprocessed_agree macros = processed_agree 201 source is_closed.source_in (record { macros = macros; count = 0; out = [] })

@@ -1,6 +1,6 @@
 -- A line goes into no file but one that it asks for.
 use Rattle.std.proofs.Common.{◌≡◌, ℕ, List, [], ◌∷◌, Bool, true, false, not, Option, Some, None, Result, Ok, Err, ◌<◌, refl, lit<}
-use Rattle.std.specs.Prelude.{Contains, ◌==◌, ◌&&◌}
+use Rattle.std.specs.Prelude.{Contains, if◌then◌else◌}
 use Rattle.std.specs.Option.{is_some}
 use Rattle.tool_text.specs.declared.failure.Failure.{Failure}
 use Rattle.tool_text.specs.Directive.{Directive, Text, Empty, Include, Define, Undef, Ifdef, Ifndef, If, Else, Endif, Unknown, Target, directive_of}
@@ -22,14 +22,14 @@ GoesInto targets (Err failure) = Unit {0}
 nowhere : {A : Type 0} (targets : List Target) (result : Result A Failure) (next : A → Taken) → ((x : A) → (next x).target ≡ None)
     → GoesInto targets (result >>= λ x. Ok (next x))
 nowhere targets (Err failure) next none = tt
-nowhere targets (Ok x) next none = rw (none x) in tt
+nowhere targets (Ok x) next none = rw (none x) tt
 
 acted_goes : (d : Directive) (line : List ℕ) (groups : List Group) (state : State) → GoesInto (asked_by d) (acted d line groups state)
 unfolding acted
 acted_goes Text line groups state = nowhere [] (written line state) (λ now. going_on groups now) (λ _. refl)
 acted_goes Empty line groups state = tt
 acted_goes (Include None) line groups state = tt
-acted_goes (Include (Some target)) line groups state = (0, (lit< tt, refl))
+acted_goes (Include (Some target)) line groups state = (0, lit< tt, refl)
 acted_goes (Define None) line groups state = tt
 acted_goes (Define (Some macro)) line groups state = tt
 acted_goes (Undef None) line groups state = tt
