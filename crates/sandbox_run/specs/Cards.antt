@@ -6,10 +6,11 @@ use Rattle.thunk_codec.specs.declared.job.Outcome.{Outcome}
 use Rattle.thunk_codec.specs.declared.job.Outcome.TheVariants.{Done, Failed}
 use Rattle.tool_text.specs.Add.{add_outcome}
 use Rattle.tool_text.specs.Cat.{cat_outcome}
+use Rattle.tool_text.specs.Cpp.{cpp_outcome}
 use Rattle.tool_text.specs.Fail.{fail_outcome}
 use Rattle.tool_text.specs.Fib.{fib_outcome}
 use Rattle.sandbox_run.specs.declared.card.Card.{Card}
-use Rattle.sandbox_run.specs.declared.card.Card.TheVariants.{Add, Cat, Fail, Fib}
+use Rattle.sandbox_run.specs.declared.card.Card.TheVariants.{Add, Cat, Cpp, Fail, Fib}
 
 -- the function bytes of a card: `gg-tool `, its name and a line feed
 abbrev pub card_text : List ℕ → List ℕ
@@ -22,6 +23,7 @@ card_of function =
     else if bytes_eq function (card_text (codes "add")) then Some Add
     else if bytes_eq function (card_text (codes "fib")) then Some Fib
     else if bytes_eq function (card_text (codes "fail")) then Some Fail
+    else if bytes_eq function (card_text (codes "cpp")) then Some Cpp
     else None
 
 -- what a card's tool gives
@@ -30,6 +32,7 @@ tool_outcome Cat job = cat_outcome job
 tool_outcome Add job = add_outcome job
 tool_outcome Fib job = fib_outcome job
 tool_outcome Fail job = fail_outcome job
+tool_outcome Cpp job = cpp_outcome job
 
 -- status 201 in the place of outputs that are together over the size of an object
 abbrev pub within_limit : Outcome → Outcome

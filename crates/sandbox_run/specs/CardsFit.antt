@@ -6,9 +6,9 @@ use Rattle.thunk_codec.specs.declared.job.Job.{Job}
 use Rattle.thunk_codec.specs.declared.job.Outcome.{Outcome}
 use Rattle.thunk_codec.specs.declared.job.Outcome.TheVariants.{Done, Failed}
 use Rattle.thunk_codec.specs.Outcome.{Fits}
-use Rattle.tool_text.proofs.Fitting.{FitsWithin, of_choice, cat_fits, add_fits, fib_fits, fail_fits}
+use Rattle.tool_text.proofs.Fitting.{FitsWithin, of_choice, cat_fits, add_fits, fib_fits, fail_fits, cpp_fits}
 use Rattle.sandbox_run.specs.declared.card.Card.{Card}
-use Rattle.sandbox_run.specs.declared.card.Card.TheVariants.{Add, Cat, Fail, Fib}
+use Rattle.sandbox_run.specs.declared.card.Card.TheVariants.{Add, Cat, Cpp, Fail, Fib}
 use Rattle.sandbox_run.specs.Cards.{card_of, tool_outcome, within_limit, outcome_by, card_outcome}
 
 -- what a tool gives fits its job, where the outputs are within the limit
@@ -17,6 +17,7 @@ tool_fits Cat job = cat_fits job
 tool_fits Add job = add_fits job
 tool_fits Fib job = fib_fits job
 tool_fits Fail job = λ _. fail_fits job
+tool_fits Cpp job = cpp_fits job
 
 limit_fits : (job : Job) (outcome : Outcome) → FitsWithin job outcome → Fits job (within_limit outcome)
 limit_fits job (Done outputs) fits =

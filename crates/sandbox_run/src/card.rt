@@ -5,13 +5,14 @@ ghost use Rattle.sandbox_run.specs.Cards.{card_of, tool_outcome};
 
 use std::alloc::{AllocError, Global};
 use thunk_codec::{Job, Outcome};
-use tool_text::{add, cat, fail, fib};
+use tool_text::{add, cat, cpp, fail, fib};
 
 /// A tool that runs here.
 #[derive(Clone, Copy, Debug, PartialEq, Eq)]
 pub(crate) enum Card {
     Add,
     Cat,
+    Cpp,
     Fail,
     Fib,
 }
@@ -34,6 +35,9 @@ impl Card {
         if function == b"gg-tool fail\n".as_slice() {
             return Some(Card::Fail);
         }
+        if function == b"gg-tool cpp\n".as_slice() {
+            return Some(Card::Cpp);
+        }
         None
     }
 
@@ -44,6 +48,7 @@ impl Card {
         match self {
             Card::Add => add(alloc, job),
             Card::Cat => cat(alloc, job),
+            Card::Cpp => cpp(alloc, job),
             Card::Fail => fail(alloc, job),
             Card::Fib => fib(alloc, job),
         }
