@@ -1,5 +1,6 @@
 //! Placeholder files that are forced, and files that are refused.
 
+use crate::cards::add_failing;
 use crate::cat::assert_wrote_abc;
 use crate::files::{Files, Place, assert_filed};
 use crate::objects::{Item, Objects};
@@ -10,18 +11,24 @@ use std::alloc::Global;
 use std::process::Abort;
 use std::test::Fail;
 
-/// A card that no tool has.
+/// A card that isn't held.
 const NOSUCH: &[u8] = b"gg-tool nosuch\n";
 
-/// A place where the file `p` is a placeholder of `cat_of_three`, and `q` of a thunk whose function is a card that no tool has,
-/// and may not be held; and the names of the two thunks.
+/// Adds a thunk that fails with status 7, or one whose function isn't held.
+fn add_second(objects: &mut Objects, held: bool) -> Result<Name, Fail> {
+    if held {
+        add_failing(objects)
+    } else {
+        objects.thunk(&Item::Value(name_of(NOSUCH)?), &[])
+    }
+}
+
+/// A place where the file `p` is a placeholder of `cat_of_three`, and `q` of a thunk that fails with status 7, or whose function isn't
+/// held; and the names of the two thunks.
 fn two_placeholders(alloc: Global, held: bool) -> Result<(Place, Name, Name), Fail> {
     let mut objects = Objects::new(alloc);
     let first = objects.cat_of_three()?;
-    if held {
-        let _ = objects.add(NOSUCH)?;
-    }
-    let second = objects.thunk(&Item::Value(name_of(NOSUCH)?), &[])?;
+    let second = add_second(&mut objects, held)?;
     let mut files = Files::new(alloc);
     files.add_placeholder(b"p", &first)?;
     files.add_placeholder(b"q", &second)?;
@@ -56,7 +63,7 @@ fn an_item_whose_function_fails_writes_no_file(rt: HostRuntime) -> Result<(), Fa
         status: Status::FunctionFailed,
         before: "function failed: ",
         name: second,
-        behind: " status 203",
+        behind: " status 7",
     };
     assert_writes_no_file(&rt, &mut place, first, second, &said)
 }
