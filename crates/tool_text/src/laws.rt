@@ -10,6 +10,7 @@ ghost use Rattle.thunk_codec.specs.Thunk.{IsThunk};
 ghost use Rattle.tool_text.specs.declared.fib_thunks.Asked.{Asked};
 ghost use Rattle.tool_text.specs.Add.{add_outcome};
 ghost use Rattle.tool_text.specs.Cat.{cat_outcome};
+ghost use Rattle.tool_text.specs.Cpp.{cpp_outcome};
 ghost use Rattle.tool_text.specs.Fail.{fail_outcome};
 ghost use Rattle.tool_text.specs.Fib.{fib_outcome, fib_thunk, sum_thunk};
 ghost use Rattle.tool_text.specs.Limit.{IsWithinLimit};
@@ -20,6 +21,7 @@ pub fn outcomes_fit()
     ensures fail { (job : Job) → Fits job (fail_outcome job) }
     ensures add { (job : Job) → IsWithinLimit (add_outcome job) → Fits job (add_outcome job) }
     ensures fib { (job : Job) → IsWithinLimit (fib_outcome job) → Fits job (fib_outcome job) }
+    ensures cpp { (job : Job) → IsWithinLimit (cpp_outcome job) → Fits job (cpp_outcome job) }
 {}
 
 /// What `fib` gives for a number over 1 are texts of thunks, where its names are those of objects of these kinds.

@@ -1,4 +1,4 @@
-use Rattle.tool_text.proofs.Fitting.{cat_fits, fail_fits, add_fits, fib_fits}
+use Rattle.tool_text.proofs.Fitting.{cat_fits, fail_fits, add_fits, fib_fits, cpp_fits}
 use Rattle.tool_text.proofs.laws.outcomes_fit.Goals as goal
 
 pub returns-clause-cat : goal.returns-clause-cat
@@ -12,3 +12,6 @@ returns-clause-add c = add_fits
 
 pub returns-clause-fib : goal.returns-clause-fib
 returns-clause-fib c = fib_fits
+
+pub returns-clause-cpp : goal.returns-clause-cpp
+returns-clause-cpp c = cpp_fits
