@@ -1,27 +1,27 @@
 -- The outcomes of the cards fit their jobs.
 use Rattle.std.proofs.Common.{◌≡◌, ◌≤◌, ◌+◌, ◌^◌, ◌∷◌, [], ℕ, List, length, Bool, true, false, Option, Some, None, Result, Ok, Err, cond, refl, sym, eqb-true, leb-true, lit≤, arith}
-use Rattle.std.specs.Option.{is_some}
 use Rattle.std.specs.Prelude.{◌==◌, ◌&&◌, nat_lt, nat_le, bytes_eq, codes, unwrap_or}
+use Rattle.std.specs.Option.{is_some}
 use Rattle.std.proofs.lemmas.Bool.{and_parts}
 use Rattle.std.specs.Cmp.Lexicographic.{pointwise, as_long}
 use Rattle.object_name.specs.Number.{number_of}
 use Rattle.thunk_codec.specs.declared.job.Job.{Job}
 use Rattle.thunk_codec.specs.declared.job.Outcome.{Outcome}
 use Rattle.thunk_codec.specs.declared.job.Outcome.TheVariants.{Done, Failed}
+use Rattle.thunk_codec.specs.Job.{input_at}
 use Rattle.thunk_codec.specs.Outcome.{Fits}
 use Rattle.thunk_codec.specs.Maybe.{◌>>=◌}
 use Rattle.tool_text.specs.declared.fib_thunks.Asked.{Asked}
+use Rattle.tool_text.specs.declared.failure.Failure.{Failure}
+use Rattle.tool_text.specs.declared.failure.Failure.TheVariants.{BadDirective, HeaderNotFound, TooDeep, TooManyLines, OutputTooLong}
+use Rattle.tool_text.specs.Cpp.{Settings, no_settings, with_arguments, failure_status, result_outcome, outcome_with, arguments_outcome, cpp_outcome}
+use Rattle.tool_text.specs.Including.{files_of}
 use Rattle.tool_text.specs.Limit.{IsWithinLimit}
+use Rattle.tool_text.specs.Preprocess.{State, preprocessed}
 use Rattle.tool_text.specs.Numbers.{number_in}
 use Rattle.tool_text.specs.Cat.{cat_outcome}
 use Rattle.tool_text.specs.Fail.{status_in, status_of, fail_outcome}
 use Rattle.tool_text.specs.Add.{sum_outcome, inputs_outcome, add_outcome}
-use Rattle.tool_text.specs.declared.failure.Failure.{Failure}
-use Rattle.tool_text.specs.declared.failure.Failure.TheVariants.{BadDirective, HeaderNotFound, TooDeep, TooManyLines, OutputTooLong}
-use Rattle.tool_text.specs.Preprocess.{State, preprocessed}
-use Rattle.tool_text.specs.Including.{files_of}
-use Rattle.tool_text.specs.Cpp.{Settings, no_settings, with_arguments, failure_status, result_outcome, outcome_with, arguments_outcome, cpp_outcome}
-use Rattle.thunk_codec.specs.Job.{input_at}
 use Rattle.tool_text.specs.Fib.{fib_outputs, contents_of, outcome_of, fib_outcome}
 
 -- an outcome fits the job where it is within the limit
@@ -106,8 +106,8 @@ failure_fits job TooManyLines _ = (lit≤ tt, lit≤ tt)
 failure_fits job OutputTooLong _ = (lit≤ tt, lit≤ tt)
 
 result_fits : (job : Job) (result : Result State Failure) → 1 ≡ length job.outputs → FitsWithin job (result_outcome result)
-result_fits job (Ok state) one within = (one, within)
-result_fits job (Err failure) one within = failure_fits job failure within
+result_fits job (Ok state) one = λ within. (one, within)
+result_fits job (Err failure) one = failure_fits job failure
 
 settings_fit : (job : Job) (source : List ℕ) (settings : Option Settings) → 1 ≡ length job.outputs → FitsWithin job (outcome_with job source settings)
 settings_fit job source None one = bad_form job
@@ -120,4 +120,5 @@ arguments_fit job (source ∷ args) one =
 
 pub cpp_fits : (job : Job) → FitsWithin job (cpp_outcome job)
 unfolding cpp_outcome
-cpp_fits job = of_choice (FitsWithin job) (length job.outputs == 1) _ _ (λ one. arguments_fit job job.args (sym (eqb-true (length job.outputs) 1 one))) (bad_form job)
+cpp_fits job =
+    of_choice (FitsWithin job) (length job.outputs == 1) _ _ (λ is_one. arguments_fit job job.args (sym (eqb-true (length job.outputs) 1 is_one))) (bad_form job)

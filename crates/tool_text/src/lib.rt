@@ -35,4 +35,10 @@ pub use include_lines::{IncludeLine, include_line};
 pub use including::candidates;
 
 #[cfg(test)]
+mod cpp_tests;
+#[cfg(test)]
+mod directive_tests;
+#[cfg(test)]
+mod include_tests;
+#[cfg(test)]
 mod tests;

@@ -60,7 +60,7 @@ fn paths(alloc: Global, list: &[&[u8]]) -> Result<Many<Path>, Fail> {
 }
 
 /// A job of a card.
-fn job_with(
+pub(crate) fn job_with(
     alloc: Global,
     function: &[u8],
     args: &[&[u8]],
@@ -80,14 +80,18 @@ fn job_with(
     })
 }
 
-fn has_status(outcome: &Outcome, status: u8) -> bool {
+pub(crate) fn has_status(outcome: &Outcome, status: u8) -> bool {
     match outcome {
         Outcome::Done(_) => false,
         Outcome::Failed(found) => *found == status,
     }
 }
 
-fn has_outputs(alloc: Global, outcome: &Outcome, expected: &[&[u8]]) -> Result<bool, Fail> {
+pub(crate) fn has_outputs(
+    alloc: Global,
+    outcome: &Outcome,
+    expected: &[&[u8]],
+) -> Result<bool, Fail> {
     match outcome {
         Outcome::Done(outputs) => Ok(*outputs == texts(alloc, expected)?),
         Outcome::Failed(_) => Ok(false),
