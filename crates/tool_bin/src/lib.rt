@@ -1,7 +1,10 @@
 //! The cards that compile, assemble, link and keep archives: each a function of its job.
 #![tactic(auto)]
 
+mod archive;
 mod status;
+
+pub use archive::{Archive, Member, read_archive};
 
 #[cfg(test)]
 mod tests;

@@ -1,0 +1,85 @@
+-- Reading archives in the GNU form.
+use Rattle.std.specs.Prelude.{ℕ, zero, suc, List, [], ◌∷◌, ◌+◌, ◌==◌, nat_le, nat_eq, length, take, drop, position, take_while, bytes_eq, Bool, true, false, Option, Some, None, if◌then◌else◌}
+use Rattle.std.specs.List.{list_all, starts_with}
+use Rattle.std.specs.Char.{is_ascii_digit}
+use Rattle.object_name.specs.Number.{digits_value}
+use Rattle.thunk_codec.specs.Maybe.{◌>>=◌, ◌>>◌, check}
+use Rattle.thunk_codec.specs.Reading.{behind}
+use Rattle.tool_bin.specs.Archive.{ArchiveMember, ArchiveContents, archive_mark, header_end, field, padding, table_name, is_member_name}
+
+-- a space
+abbrev pub is_space : ℕ → Bool
+is_space byte = byte == 32
+
+-- the name that the name field of a member says: what stands before `/`, with spaces alone behind it
+unfoldable pub name_in : List ℕ → Option (List ℕ)
+name_in bytes = do
+  end ← position (λ byte. byte == 47) bytes
+  check (list_all is_space (drop (end + 1) bytes))
+  check (is_member_name (take end bytes))
+  Some (take end bytes)
+
+-- the size that a size field says: at least one digit, with spaces alone behind the digits
+unfoldable pub size_in : List ℕ → Option ℕ
+size_in bytes = let digits = take_while is_ascii_digit bytes in do
+  check (nat_le 1 (length digits))
+  check (list_all is_space (drop (length digits) bytes))
+  Some (digits_value digits)
+
+-- the size that the header at the front says, whatever its name, time, owner, group and mode
+unfoldable pub size_at : List ℕ → Option ℕ
+size_at bytes = do
+  check (nat_le 60 (length bytes))
+  check (bytes_eq (take 2 (drop 58 bytes)) header_end)
+  size_in (take 10 (drop 48 bytes))
+
+-- the contents of the part at the front, and what stands behind it
+unfoldable pub contents_at : List ℕ → Option (List ℕ × List ℕ)
+contents_at bytes = do
+  size ← size_at bytes
+  check (nat_le size (length (drop 60 bytes)))
+  rest ← behind (padding size) (drop size (drop 60 bytes))
+  Some (take size (drop 60 bytes), rest)
+
+-- the member at the front, and what stands behind it
+unfoldable pub member_at : List ℕ → Option (ArchiveMember × List ℕ)
+member_at bytes = do
+  read ← contents_at bytes
+  name ← name_in (take 16 bytes)
+  Some (record { name = name; contents = read.0 }, read.1)
+
+-- members to the end, at most so many
+unfoldable pub members_at : ℕ → List ℕ → Option (List ArchiveMember)
+members_at most [] = Some []
+members_at zero (byte ∷ bytes) = None
+members_at (suc most) (byte ∷ bytes) = do
+  first ← member_at (byte ∷ bytes)
+  others ← members_at most first.1
+  Some (first.0 ∷ others)
+
+-- members to the end: none is empty, so there are at most as many as bytes
+abbrev pub all_members : List ℕ → Option (List ArchiveMember)
+all_members bytes = members_at (length bytes) bytes
+
+-- the bytes begin as a table of symbols
+abbrev pub begins_with_table : List ℕ → Bool
+begins_with_table bytes = starts_with nat_eq bytes (field 16 table_name)
+
+-- what stands behind the mark, if there is a table
+abbrev pub with_table : List ℕ → Option ArchiveContents
+with_table bytes = do
+  table ← contents_at bytes
+  members ← all_members table.1
+  Some (record { has_table = true; members = members })
+
+-- what stands behind the mark, if there is no table
+abbrev pub without_table : List ℕ → Option ArchiveContents
+without_table bytes = do
+  members ← all_members bytes
+  Some (record { has_table = false; members = members })
+
+-- what the archive with these bytes holds, if they are one
+unfoldable pub archive_of : List ℕ → Option ArchiveContents
+archive_of bytes = do
+  body ← behind archive_mark bytes
+  if begins_with_table body then with_table body else without_table body
