@@ -1,6 +1,6 @@
 -- Reading archives in the GNU form.
-use Rattle.std.specs.Prelude.{ℕ, zero, suc, List, [], ◌∷◌, ◌+◌, ◌==◌, nat_le, nat_eq, length, take, drop, position, take_while, bytes_eq, Bool, true, false, Option, Some, None, if◌then◌else◌}
-use Rattle.std.specs.List.{list_all, starts_with}
+use Rattle.std.specs.Prelude.{ℕ, zero, suc, List, [], ◌∷◌, ◌+◌, ◌==◌, nat_le, nat_eq, length, take, drop, position, take_while, Bool, true, false, Option, Some, None, if◌then◌else◌}
+use Rattle.std.specs.List.{list_all, starts_with, ends_with}
 use Rattle.std.specs.Char.{is_ascii_digit}
 use Rattle.object_name.specs.Number.{digits_value}
 use Rattle.thunk_codec.specs.Maybe.{◌>>=◌, ◌>>◌, check}
@@ -11,10 +11,14 @@ use Rattle.tool_bin.specs.Archive.{ArchiveMember, ArchiveContents, archive_mark,
 abbrev pub is_space : ℕ → Bool
 is_space byte = byte == 32
 
+-- the byte `/`
+abbrev pub is_slash : ℕ → Bool
+is_slash byte = byte == 47
+
 -- the name that the name field of a member says: what stands before `/`, with spaces alone behind it
 unfoldable pub name_in : List ℕ → Option (List ℕ)
 name_in bytes = do
-  end ← position (λ byte. byte == 47) bytes
+  end ← position is_slash bytes
   check (list_all is_space (drop (end + 1) bytes))
   check (is_member_name (take end bytes))
   Some (take end bytes)
@@ -26,27 +30,45 @@ size_in bytes = let digits = take_while is_ascii_digit bytes in do
   check (list_all is_space (drop (length digits) bytes))
   Some (digits_value digits)
 
--- the size that the header at the front says, whatever its name, time, owner, group and mode
-unfoldable pub size_at : List ℕ → Option ℕ
-size_at bytes = do
+-- the header at the front, and what stands behind it
+abbrev pub header_at : List ℕ → Option (List ℕ × List ℕ)
+header_at bytes = do
   check (nat_le 60 (length bytes))
-  check (bytes_eq (take 2 (drop 58 bytes)) header_end)
+  Some (take 60 bytes, drop 60 bytes)
+
+-- the name that a member's header says
+abbrev pub name_of : List ℕ → Option (List ℕ)
+name_of bytes = name_in (take 16 bytes)
+
+-- the size that a header says, whatever its name, time, owner, group and mode
+abbrev pub size_of : List ℕ → Option ℕ
+size_of bytes = do
+  check (ends_with nat_eq bytes header_end)
   size_in (take 10 (drop 48 bytes))
 
--- the contents of the part at the front, and what stands behind it
-unfoldable pub contents_at : List ℕ → Option (List ℕ × List ℕ)
-contents_at bytes = do
-  size ← size_at bytes
-  check (nat_le size (length (drop 60 bytes)))
-  rest ← behind (padding size) (drop size (drop 60 bytes))
-  Some (take size (drop 60 bytes), rest)
+-- contents of this size and what stands behind their padding
+unfoldable pub contents_at : ℕ → List ℕ → Option (List ℕ × List ℕ)
+contents_at size bytes = do
+  check (nat_le size (length bytes))
+  rest ← behind (padding size) (drop size bytes)
+  Some (take size bytes, rest)
 
 -- the member at the front, and what stands behind it
 unfoldable pub member_at : List ℕ → Option (ArchiveMember × List ℕ)
 member_at bytes = do
-  read ← contents_at bytes
-  name ← name_in (take 16 bytes)
+  cut ← header_at bytes
+  name ← name_of cut.0
+  size ← size_of cut.0
+  read ← contents_at size cut.1
   Some (record { name = name; contents = read.0 }, read.1)
+
+-- what stands behind the table at the front
+unfoldable pub behind_table : List ℕ → Option (List ℕ)
+behind_table bytes = do
+  cut ← header_at bytes
+  size ← size_of cut.0
+  read ← contents_at size cut.1
+  Some read.1
 
 -- members to the end, at most so many
 unfoldable pub members_at : ℕ → List ℕ → Option (List ArchiveMember)
@@ -68,8 +90,8 @@ begins_with_table bytes = starts_with nat_eq bytes (field 16 table_name)
 -- what stands behind the mark, if there is a table
 abbrev pub with_table : List ℕ → Option ArchiveContents
 with_table bytes = do
-  table ← contents_at bytes
-  members ← all_members table.1
+  rest ← behind_table bytes
+  members ← all_members rest
   Some (record { has_table = true; members = members })
 
 -- what stands behind the mark, if there is no table

@@ -2,6 +2,7 @@
 #![tactic(auto)]
 
 mod archive;
+mod reading;
 mod status;
 
 pub use archive::{Archive, Member, read_archive};
