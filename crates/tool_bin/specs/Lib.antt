@@ -1,0 +1,4 @@
+pub mod Instruction
+pub mod Object
+pub mod Assembly
+pub mod Reading

@@ -1,7 +1,15 @@
 //! The cards that compile, assemble, link and keep archives: each a function of its job.
 #![tactic(auto)]
 
+mod assembly;
+mod instruction;
+mod object;
+mod object_reading;
 mod status;
+
+pub use instruction::Instruction;
+pub use object::{DebugLine, Object, Symbol};
+pub use object_reading::{read_object, symbol_names};
 
 #[cfg(test)]
 mod tests;
