@@ -8,7 +8,7 @@ mod object_reading;
 mod status;
 
 pub use instruction::Instruction;
-pub use object::{DebugLine, Object, Symbol};
+pub use object::{DebugLine, Object, Symbol, write_object};
 pub use object_reading::{read_object, symbol_names};
 
 #[cfg(test)]
