@@ -21,13 +21,26 @@ abbrev pub with_code : Option Instruction → Assembly → Assembly
 with_code None assembly = assembly
 with_code (Some instruction) assembly = with_instruction instruction assembly
 
--- with what a line says: `sym NAME COUNT`, `dbg NAME N`, or an instruction
-abbrev pub with_words : List (List ℕ) → Assembly → Assembly
-with_words (kind ∷ name ∷ number ∷ []) assembly =
+-- with what a line of three words says: `sym NAME COUNT` or `dbg NAME N`
+abbrev pub with_three : List ℕ → List ℕ → List ℕ → Assembly → Assembly
+with_three kind name number assembly =
     if bytes_eq kind (codes "sym") then with_label name assembly
     else if bytes_eq kind (codes "dbg") then with_numbered name (number_of number) assembly
     else assembly
-with_words words assembly = with_code (instruction_of words) assembly
+
+-- the words of a line of three words
+abbrev pub three_of : List (List ℕ) → Option (List ℕ × List ℕ × List ℕ)
+three_of (kind ∷ name ∷ number ∷ []) = Some (kind, name, number)
+three_of words = None
+
+-- with a line of three words, or else with an instruction
+abbrev pub with_either : Option (List ℕ × List ℕ × List ℕ) → Option Instruction → Assembly → Assembly
+with_either None instruction assembly = with_code instruction assembly
+with_either (Some three) instruction assembly = with_three three.0 three.1 three.2 assembly
+
+-- with what a line says
+abbrev pub with_words : List (List ℕ) → Assembly → Assembly
+with_words words assembly = with_either (three_of words) (instruction_of words) assembly
 
 -- with what some lines say
 abbrev pub with_lines : List (List ℕ) → Assembly → Assembly

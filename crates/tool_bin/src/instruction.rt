@@ -88,11 +88,7 @@ fn call(alloc: Global, operand: &[u8]) -> Result<Option<Instruction>, AllocError
 
 /// The instruction of two words.
 #[tactic(auto, unfolding(crate::specs::Instruction::operated_of))]
-fn operated(
-    alloc: Global,
-    word: &[u8],
-    operand: &[u8],
-) -> Result<Option<Instruction>, AllocError>
+fn operated(alloc: Global, word: &[u8], operand: &[u8]) -> Result<Option<Instruction>, AllocError>
     ensures { IfOk result (λ instruction. instruction ≡ operated_of word.now operand.now) }
 {
     if word == b"push".as_slice() {

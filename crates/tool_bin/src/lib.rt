@@ -3,8 +3,10 @@
 
 mod assembly;
 mod instruction;
+mod names;
 mod object;
 mod object_reading;
+mod rules;
 mod status;
 
 pub use instruction::Instruction;

@@ -42,12 +42,7 @@ fn write_code(code: &[Instruction], out: &mut Bytes) -> Result<(), AllocError>
 }
 
 /// Appends a kind of line, a name and a number.
-fn write_numbered(
-    kind: &[u8],
-    name: &Bytes,
-    number: u64,
-    out: &mut Bytes,
-) -> Result<(), AllocError>
+fn write_numbered(kind: &[u8], name: &Bytes, number: u64, out: &mut Bytes) -> Result<(), AllocError>
     ensures { OnOk result (out.new ≡ out.old ++ line (kind.now ++ (name.now ++ 32 ∷ decimal number))) }
 {
     out.append(kind)?;
