@@ -4,7 +4,7 @@
 mod blanks;
 mod line;
 
-pub use blanks::{next_word, skip_blanks, trim_blanks};
+pub use blanks::{is_blank, next_word, skip_blanks, trim_blanks};
 pub use line::next_line;
 
 #[cfg(test)]

@@ -8,5 +8,13 @@ pub fn next_line(text: &[u8]) -> Option<(&[u8], &[u8])>
     ensures { MatchOption result (text.now ≡ [])
         (λ cut. (lines_of text.now ≡ cut.0.now ∷ lines_of cut.1.now) × (length cut.1.now < length text.now)) }
 {
-    None
+    for (i, byte) in text.iter().enumerate() {
+        if *byte == b'\n' {
+            return Some((&text[..i], &text[i + 1..]));
+        }
+    }
+    if text.is_empty() {
+        return None;
+    }
+    Some((text, &[]))
 }

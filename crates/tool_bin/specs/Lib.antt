@@ -1,2 +1,6 @@
+pub mod Instruction
+pub mod Object
+pub mod Assembly
+pub mod Reading
 pub mod Archive
 pub mod ArchiveReading

@@ -6,7 +6,7 @@ ghost use Rattle.thunk_codec.specs.Reading.{behind};
 ghost use Rattle.tool_bin.specs.Archive.{archive_mark};
 ghost use Rattle.tool_bin.specs.ArchiveReading.{archive_of, begins_with_table, with_table, without_table};
 
-use crate::reading::{all_members, behind_table};
+use crate::archive_reading::{all_members, behind_table};
 use object_name::Many;
 use std::alloc::{AllocError, Global};
 use std::marker::Model;

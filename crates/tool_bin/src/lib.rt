@@ -2,10 +2,19 @@
 #![tactic(auto)]
 
 mod archive;
-mod reading;
+mod archive_reading;
+mod assembly;
+mod instruction;
+mod names;
+mod object;
+mod object_reading;
+mod rules;
 mod status;
 
 pub use archive::{Archive, Member, read_archive};
+pub use instruction::Instruction;
+pub use object::{DebugLine, Object, Symbol, write_object};
+pub use object_reading::{read_object, symbol_names};
 
 #[cfg(test)]
 mod tests;

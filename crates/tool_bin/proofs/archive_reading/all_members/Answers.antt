@@ -1,5 +1,5 @@
 use Rattle.tool_bin.proofs.MembersLoop.{going_more, going_shortens, going_fails, going_ends}
-use Rattle.tool_bin.proofs.reading.all_members.Goals as goal
+use Rattle.tool_bin.proofs.archive_reading.all_members.Goals as goal
 
 pub returns-in_default : goal.returns-in_default
 returns-in_default c = going_fails c.args.bytes.now c.members.members c.members.rest.now c.members.invariant c.members-test.ensures c.in_default.ensures

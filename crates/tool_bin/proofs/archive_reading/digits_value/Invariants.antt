@@ -1,6 +1,6 @@
 use Rattle.std.proofs.Common.{◌≡◌, ◌<◌, ◌^◌, take}
 use Rattle.object_name.specs.Number.{digits_value}
-use Rattle.tool_bin.proofs.reading.digits_value.Given as goal
+use Rattle.tool_bin.proofs.archive_reading.digits_value.Given as goal
 
 abbrev pub invariant-digits : goal.invariant-digits
 invariant-digits l = record {

@@ -1,0 +1,13 @@
+use Rattle.std.proofs.Common.{arith}
+use Rattle.text_lines.proofs.BlankLemmas.{no_word, begins_a_word, word_behind_blanks}
+use Rattle.text_lines.proofs.blanks.next_word.Goals as goal
+
+pub returns-then-is_empty : goal.returns-then-is_empty
+returns-then-is_empty c = no_word c.args.line.now c.skip_blanks-text.result.now c.skip_blanks-text.ensures (grind arith)
+
+pub front_word-requires : goal.front_word-requires
+front_word-requires c = begins_a_word c.args.line.now c.skip_blanks-text.result.now c.skip_blanks-text.ensures (grind arith)
+
+pub returns : goal.returns
+returns c =
+    word_behind_blanks c.args.line.now c.skip_blanks-text.result.now c.front_word.result.0.now c.front_word.result.1.now c.skip_blanks-text.ensures c.front_word.ensures.words c.front_word.ensures.shorter
