@@ -24,10 +24,14 @@ header_end = 96 ∷ 10 ∷ []
 abbrev pub field : ℕ → List ℕ → List ℕ
 field width text = text ++ replicate (width - length text) 32
 
--- the header of a part: its spelled name, the time, the owner and the group 0, the mode in octal and the size in decimal
-unfoldable pub header : List ℕ → List ℕ → ℕ → List ℕ
-header spelled mode size = field 16 spelled ++ (field 12 (codes "0") ++ (field 6 (codes "0") ++ (field 6 (codes "0")
-    ++ (field 8 mode ++ (field 10 (decimal size) ++ header_end)))))
+-- the fields of a header behind the name: the time, the owner and the group 0, the mode in octal and the size in decimal
+unfoldable pub numbers : List ℕ → ℕ → List ℕ
+numbers mode size = field 12 (codes "0") ++ (field 6 (codes "0") ++ (field 6 (codes "0")
+    ++ (field 8 mode ++ (field 10 (decimal size) ++ header_end))))
+
+-- a header, with its spelled name
+abbrev pub header : List ℕ → List ℕ → ℕ → List ℕ
+header spelled mode size = field 16 spelled ++ numbers mode size
 
 -- one line feed behind contents of an odd size
 abbrev pub padding : ℕ → List ℕ

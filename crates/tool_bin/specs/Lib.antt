@@ -4,3 +4,5 @@ pub mod Assembly
 pub mod Reading
 pub mod Archive
 pub mod ArchiveReading
+pub mod SymbolTable
+pub mod Ar
