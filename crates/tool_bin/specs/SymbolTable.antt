@@ -1,8 +1,8 @@
 -- The table of symbols of an archive in the GNU form.
-use Rattle.std.specs.Prelude.{ℕ, List, [], ◌∷◌, ◌++◌, ◌+◌, ◌*◌, ◌%◌, ◌^◌, nat_lt, length, replicate, unwrap_or, Bool, Option, Some, None, if◌then◌else◌}
+use Rattle.std.specs.Prelude.{ℕ, List, [], ◌∷◌, ◌++◌, ◌+◌, ◌*◌, ◌-◌, ◌%◌, ◌^◌, min, nat_lt, length, replicate, unwrap_or, Bool, Option, Some, None, if◌then◌else◌}
 use Rattle.std.specs.List.{list_all, flat_map}
 use Rattle.thunk_codec.specs.Job.{count}
-use Rattle.thunk_codec.specs.Maybe.{◌>>◌, check}
+use Rattle.thunk_codec.specs.Maybe.{◌>>=◌, ◌>>◌, check}
 use Rattle.tool_bin.specs.Archive.{ArchiveMember, archive_mark, size_limit}
 use Rattle.tool_bin.specs.Reading.{symbol_names}
 
@@ -36,17 +36,29 @@ first_place size = length archive_mark + part_len size
 abbrev pub is_word : ℕ → Bool
 is_word n = nat_lt n (2 ^ 32)
 
+-- these places in the table, if it can hold them
+abbrev pub words_of : List ℕ → Option (List ℕ)
+words_of places = do
+  check (list_all is_word places)
+  Some (flat_map count places)
+
 -- the table of some symbols, with the places of their members, if it can hold them
 abbrev pub table_with : List (List ℕ) → List ℕ → Option (List ℕ)
 table_with symbols places = do
   check (is_word (length symbols))
-  check (list_all is_word places)
-  Some (count (length symbols) ++ (flat_map count places ++ flat_map ended symbols))
+  words ← words_of places
+  Some (count (length symbols) ++ (words ++ flat_map ended symbols))
+
+-- the size of a table, where a part may have it
+abbrev pub size_within : ℕ → Option ℕ
+size_within size = if nat_lt size size_limit then Some size else None
 
 -- the table of some members, if it can hold their symbols and is a part itself
 unfoldable pub table_of : List ArchiveMember → Option (List ℕ)
-table_of members =
-    let symbols = flat_map symbols_of members in
-    let size = table_size (length symbols) (length (flat_map ended symbols)) in do
-      check (nat_lt size size_limit)
-      table_with symbols (places_from (first_place size) members)
+table_of members = let symbols = flat_map symbols_of members in do
+  size ← size_within (table_size (length symbols) (length (flat_map ended symbols)))
+  table_with symbols (places_from (first_place size) members)
+
+-- a number, or the greatest of 64 bits where it is greater
+abbrev pub capped : ℕ → ℕ
+capped n = min n (2 ^ 64 - 1)

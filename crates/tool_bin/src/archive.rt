@@ -17,6 +17,9 @@ pub const ARCHIVE_MARK: &[u8] = b"!<arch>\n";
 /// The name field of a table of symbols.
 pub const TABLE_FIELD: &[u8] = b"/               ";
 
+/// The least size that has too many digits for a header.
+pub const SIZE_LIMIT: u64 = 10_000_000_000;
+
 /// A member of an archive: its name and its contents. Contracts see both as lists.
 #[derive(Debug, Drop)]
 pub struct Member<'a> {

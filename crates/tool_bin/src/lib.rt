@@ -11,6 +11,7 @@ mod object;
 mod object_reading;
 mod rules;
 mod status;
+mod symbol_table;
 
 pub use archive::{Archive, Member, read_archive};
 pub use instruction::Instruction;
