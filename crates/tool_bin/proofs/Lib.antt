@@ -1,3 +1,4 @@
 pub mod HeaderFields
 pub mod MembersLoop
 pub mod Listing
+pub mod Tables

@@ -36,18 +36,22 @@ first_place size = length archive_mark + part_len size
 abbrev pub is_word : ℕ → Bool
 is_word n = nat_lt n (2 ^ 32)
 
+-- a number in the table, if it can hold it
+abbrev pub word_of : ℕ → Option ℕ
+word_of n = if is_word n then Some n else None
+
 -- these places in the table, if it can hold them
 abbrev pub words_of : List ℕ → Option (List ℕ)
 words_of places = do
   check (list_all is_word places)
   Some (flat_map count places)
 
--- the table of some symbols, with the places of their members, if it can hold them
-abbrev pub table_with : List (List ℕ) → List ℕ → Option (List ℕ)
-table_with symbols places = do
-  check (is_word (length symbols))
+-- the table of so many symbols with these places and ended names, if it can hold them
+abbrev pub table_with : ℕ → List ℕ → List ℕ → Option (List ℕ)
+table_with symbols places names = do
+  check (is_word symbols)
   words ← words_of places
-  Some (count (length symbols) ++ (words ++ flat_map ended symbols))
+  Some (count symbols ++ (words ++ names))
 
 -- the size of a table, where a part may have it
 abbrev pub size_within : ℕ → Option ℕ
@@ -55,9 +59,11 @@ size_within size = if nat_lt size size_limit then Some size else None
 
 -- the table of some members, if it can hold their symbols and is a part itself
 unfoldable pub table_of : List ArchiveMember → Option (List ℕ)
-table_of members = let symbols = flat_map symbols_of members in do
-  size ← size_within (table_size (length symbols) (length (flat_map ended symbols)))
-  table_with symbols (places_from (first_place size) members)
+table_of members =
+    let symbols = flat_map symbols_of members in
+    let names = flat_map ended symbols in do
+      size ← size_within (table_size (length symbols) (length names))
+      table_with (length symbols) (places_from (first_place size) members) names
 
 -- a number, or the greatest of 64 bits where it is greater
 abbrev pub capped : ℕ → ℕ
