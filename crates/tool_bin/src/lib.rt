@@ -3,6 +3,7 @@
 
 mod archive;
 mod archive_reading;
+mod archive_task;
 mod archive_writing;
 mod assembly;
 mod instruction;
