@@ -2,3 +2,4 @@ pub mod HeaderFields
 pub mod MembersLoop
 pub mod Listing
 pub mod Tables
+pub mod Givens

@@ -19,14 +19,20 @@ pub record ArchiveTask : Type 0 where
 abbrev pub member_path : ℕ → List ℕ
 member_path k = codes "m" ++ (replicate (4 - length (decimal k)) 48 ++ decimal k)
 
+-- the member with this number and name whose contents are an input, where the input has its path
+abbrev pub member_from : ℕ → List ℕ → List ℕ × List ℕ → Option ArchiveMember
+member_from k name input = do
+  check (bytes_eq input.0 (member_path k))
+  Some (record { name = name; contents = input.1 })
+
 -- the members with these names whose contents are the inputs from a number on, and the inputs behind them
 unfoldable pub given_from : ℕ → List (List ℕ) → List (List ℕ × List ℕ) → Option (List ArchiveMember × List (List ℕ × List ℕ))
 given_from k [] inputs = Some ([], inputs)
 given_from k (name ∷ names) [] = None
 given_from k (name ∷ names) (input ∷ inputs) = do
-  check (bytes_eq input.0 (member_path k))
+  member ← member_from k name input
   others ← given_from (k + 1) names inputs
-  Some (record { name = name; contents = input.1 } ∷ others.0, others.1)
+  Some (member ∷ others.0, others.1)
 
 -- the contents of the one input `old`
 abbrev pub the_old : List (List ℕ × List ℕ) → Option (List ℕ)
