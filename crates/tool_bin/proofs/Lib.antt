@@ -3,3 +3,4 @@ pub mod MembersLoop
 pub mod Listing
 pub mod Tables
 pub mod Givens
+pub mod Puts

@@ -67,10 +67,14 @@ asked_of (letters ∷ names) inputs =
     else if bytes_eq letters (codes "s") then (length names == 0 >> listing inputs)
     else None
 
+-- a member has this name
+abbrev pub is_named : List ℕ → ArchiveMember → Bool
+is_named name member = bytes_eq member.name name
+
 -- the first member of this name is replaced, or the member is added at the end
 abbrev pub put : List ArchiveMember → ArchiveMember → List ArchiveMember
 put [] new = new ∷ []
-put (member ∷ members) new = if bytes_eq member.name new.name then new ∷ members else member ∷ put members new
+put (member ∷ members) new = if is_named new.name member then new ∷ members else member ∷ put members new
 
 -- what the archive before holds: nothing, where there is none
 abbrev pub before : Option (List ℕ) → Option ArchiveContents

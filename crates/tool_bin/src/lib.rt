@@ -10,6 +10,7 @@ mod instruction;
 mod names;
 mod object;
 mod object_reading;
+mod putting;
 mod rules;
 mod status;
 mod symbol_table;
