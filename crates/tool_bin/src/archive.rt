@@ -1,6 +1,6 @@
 //! Archives: what they hold, and reading them.
 
-ghost use Rattle.std.specs.Prelude.{◌≡◌, IfOk};
+ghost use Rattle.std.specs.Prelude.{◌≡◌, [], false, IfOk};
 ghost use Rattle.std.specs.Option.{option_copied};
 ghost use Rattle.thunk_codec.specs.Reading.{behind};
 ghost use Rattle.tool_bin.specs.Archive.{archive_mark};
@@ -72,6 +72,17 @@ impl<'a> Model for Archive<'a> {
 }
 
 impl<'a> Archive<'a> {
+    /// The archive that holds nothing.
+    pub fn new(alloc: Global) -> Self
+        ensures has_table { result.has_table ≡ false }
+        ensures members { result.members ≡ [] }
+    {
+        Archive {
+            has_table: false,
+            members: Many::new(alloc),
+        }
+    }
+
     /// Whether there is a table of symbols.
     pub fn has_table(&self) -> bool
         ensures { result ≡ self.now.has_table }
@@ -84,6 +95,13 @@ impl<'a> Archive<'a> {
         ensures { result.now ≡ self.now.members }
     {
         self.members.as_slice()
+    }
+
+    /// The members, to be changed.
+    pub fn into_members(self) -> Many<Member<'a>>
+        ensures { result ≡ self.entry.members }
+    {
+        self.members
     }
 }
 

@@ -1,6 +1,7 @@
 //! The cards that compile, assemble, link and keep archives: each a function of its job.
 #![tactic(auto)]
 
+mod ar_tool;
 mod archive;
 mod archive_reading;
 mod archive_task;
@@ -15,6 +16,7 @@ mod rules;
 mod status;
 mod symbol_table;
 
+pub use ar_tool::{ar, ranlib};
 pub use archive::{Archive, Member, read_archive};
 pub use instruction::Instruction;
 pub use object::{DebugLine, Object, Symbol, write_object};

@@ -27,7 +27,7 @@ fn put<'a>(members: &mut Many<Member<'a>>, member: Member<'a>) -> Result<(), All
 }
 
 /// Puts members in one after another.
-fn put_all<'a>(members: &mut Many<Member<'a>>, new: &[Member<'a>]) -> Result<(), AllocError>
+pub fn put_all<'a>(members: &mut Many<Member<'a>>, new: &[Member<'a>]) -> Result<(), AllocError>
     ensures { OnOk result (members.new ≡ fold put members.old new.now) }
 {
     'new: for member in new {
