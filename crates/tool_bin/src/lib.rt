@@ -1,14 +1,21 @@
 //! The cards that compile, assemble, link and keep archives: each a function of its job.
 #![tactic(auto)]
 
+mod as_tool;
 mod assembly;
+mod cc1_tool;
+mod definition;
 mod instruction;
 mod names;
 mod object;
 mod object_reading;
 mod rules;
+mod source;
+mod statement;
 mod status;
 
+pub use as_tool::as_;
+pub use cc1_tool::cc1;
 pub use instruction::Instruction;
 pub use object::{DebugLine, Object, Symbol, write_object};
 pub use object_reading::{read_object, symbol_names};

@@ -31,7 +31,7 @@ pub struct Object {
 }
 
 /// Appends the lines of some instructions.
-fn write_code(code: &[Instruction], out: &mut Bytes) -> Result<(), AllocError>
+pub(crate) fn write_code(code: &[Instruction], out: &mut Bytes) -> Result<(), AllocError>
     ensures { OnOk result (out.new ≡ out.old ++ flat_map (λ instruction. line (instruction_text instruction)) code.now) }
 {
     'code: for instruction in code {
