@@ -5,3 +5,4 @@ pub mod Reading
 pub mod Source
 pub mod Compile
 pub mod Assemble
+pub mod Strip

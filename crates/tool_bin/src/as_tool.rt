@@ -8,7 +8,7 @@ ghost use Rattle.tool_bin.specs.Assembly.{no_assembly};
 
 use crate::assembly::Assembly;
 use crate::instruction::Instruction;
-use crate::object::{Object, write_object};
+use crate::object::{OBJECT_HEAD, Object, write_object};
 use crate::rules::keeps_rules;
 use crate::source::{plain_source_of, text_outcome};
 use crate::statement::{Statement, read_statement};
@@ -109,7 +109,7 @@ fn assembled_text(alloc: Global, source: &[u8]) -> Result<Option<Bytes>, AllocEr
     let Some(object) = assemble(alloc, source)? else {
         return Ok(None);
     };
-    Ok(Some(write_object(alloc, b"gg-obj 1", &object)?))
+    Ok(Some(write_object(alloc, OBJECT_HEAD, &object)?))
 }
 
 /// The outcome of a job of the card `as`.

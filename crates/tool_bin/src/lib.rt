@@ -13,12 +13,14 @@ mod rules;
 mod source;
 mod statement;
 mod status;
+mod strip_tool;
 
 pub use as_tool::as_;
 pub use cc1_tool::cc1;
 pub use instruction::Instruction;
-pub use object::{DebugLine, Object, Symbol, write_object};
+pub use object::{DebugLine, EXECUTABLE_HEAD, OBJECT_HEAD, Object, Symbol, write_object};
 pub use object_reading::{read_object, symbol_names};
+pub use strip_tool::strip;
 
 #[cfg(test)]
 mod tests;

@@ -9,6 +9,12 @@ use crate::instruction::{Instruction, write_instruction};
 use object_name::{Bytes, Many, write_number};
 use std::alloc::{AllocError, Global};
 
+/// The first line of an object.
+pub const OBJECT_HEAD: &[u8] = b"gg-obj 1";
+
+/// The first line of an executable.
+pub const EXECUTABLE_HEAD: &[u8] = b"gg-exe 1";
+
 /// A name and the code that it stands for.
 #[derive(Debug, Drop)]
 pub struct Symbol {
