@@ -1,3 +1,4 @@
+pub mod Names
 pub mod Instruction
 pub mod Object
 pub mod Assembly
@@ -6,3 +7,8 @@ pub mod Source
 pub mod Compile
 pub mod Assemble
 pub mod Strip
+pub mod Archive
+pub mod ArchiveReading
+pub mod Faults
+pub mod Linking
+pub mod Link

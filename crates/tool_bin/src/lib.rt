@@ -1,11 +1,16 @@
 //! The cards that compile, assemble, link and keep archives: each a function of its job.
 #![tactic(auto)]
 
+mod archive;
+mod archive_reading;
 mod as_tool;
 mod assembly;
 mod cc1_tool;
 mod definition;
 mod instruction;
+mod ld_tool;
+mod link_fault;
+mod linking;
 mod names;
 mod object;
 mod object_reading;
@@ -15,9 +20,11 @@ mod statement;
 mod status;
 mod strip_tool;
 
+pub use archive::{Archive, Member, read_archive};
 pub use as_tool::as_;
 pub use cc1_tool::cc1;
 pub use instruction::Instruction;
+pub use ld_tool::ld;
 pub use object::{DebugLine, EXECUTABLE_HEAD, OBJECT_HEAD, Object, Symbol, write_object};
 pub use object_reading::{read_object, symbol_names};
 pub use strip_tool::strip;
