@@ -1,2 +1,3 @@
 pub mod HeaderFields
 pub mod MembersLoop
+pub mod Passes

@@ -79,13 +79,16 @@ keeps_form job = (length job.outputs == 1)
 -- the program that a job asks for
 unfoldable pub linked : Job → Linked
 linked job = if keeps_form job then (do
-    linking ← with_inputs job.inputs no_linking job.args
-    all_defined linking) else Err BadForm
+  linking ← with_inputs job.inputs no_linking job.args
+  all_defined linking) else Err BadForm
+
+-- the executable of a program
+abbrev pub executable_text : Linking → List ℕ
+executable_text linking = object_text executable_head (record { symbols = linking.symbols; debug = linking.debug })
 
 -- the executable of a program, or the status of the fault
 abbrev pub executable_outcome : Linked → Outcome
-executable_outcome (Ok linking) =
-    Done (object_text executable_head (record { symbols = linking.symbols; debug = linking.debug }) ∷ [])
+executable_outcome (Ok linking) = Done (executable_text linking ∷ [])
 executable_outcome (Err fault) = Failed (status_of fault)
 
 -- the outcome of a job

@@ -1,6 +1,6 @@
 -- Adding objects to a program.
-use Rattle.std.specs.Prelude.{ℕ, List, [], ◌∷◌, ◌++◌, fold, not, ◌&&◌, Bool, Option, Some, None, Result, Ok, Err, bytes_eq, codes, if◌then◌else◌}
-use Rattle.std.specs.List.{flat_map, list_all, list_any}
+use Rattle.std.specs.Prelude.{ℕ, List, [], ◌∷◌, ◌++◌, fold, not, ◌&&◌, Bool, Option, Some, None, Ok, Err, codes, if◌then◌else◌}
+use Rattle.std.specs.List.{list_all, list_any}
 use Rattle.tool_bin.specs.declared.instruction.Instruction.{Instruction}
 use Rattle.tool_bin.specs.declared.instruction.Instruction.TheVariants.{Push, Add, Subtract, Multiply, Print, Call, Return}
 use Rattle.tool_bin.specs.declared.link_fault.LinkFault.{LinkFault}

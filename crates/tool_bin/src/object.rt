@@ -6,7 +6,7 @@ ghost use Rattle.tool_bin.specs.Instruction.{instruction_text};
 ghost use Rattle.tool_bin.specs.Object.{line, symbol_text, debug_text, object_text};
 
 use crate::instruction::{Instruction, write_instruction};
-use object_name::{Bytes, Many, write_number};
+use object_name::{Bytes, Many, TryCopy, write_number};
 use std::alloc::{AllocError, Global};
 
 /// The first line of an object.
@@ -34,6 +34,24 @@ pub struct DebugLine {
 pub struct Object {
     pub symbols: Many<Symbol>,
     pub debug: Many<DebugLine>,
+}
+
+impl TryCopy for Symbol {
+    fn copy(&self, alloc: Global) -> Result<Self, AllocError> {
+        let name = self.name.copy(alloc)?;
+        let code = self.code.copy(alloc)?;
+        Ok(Symbol { name, code })
+    }
+}
+
+impl TryCopy for DebugLine {
+    fn copy(&self, alloc: Global) -> Result<Self, AllocError> {
+        let name = self.name.copy(alloc)?;
+        Ok(DebugLine {
+            name,
+            number: self.number,
+        })
+    }
 }
 
 /// Appends the lines of some instructions.
