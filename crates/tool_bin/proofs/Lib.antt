@@ -4,3 +4,4 @@ pub mod Listing
 pub mod Tables
 pub mod Givens
 pub mod Puts
+pub mod Passes

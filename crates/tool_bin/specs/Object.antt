@@ -1,12 +1,13 @@
 -- Objects: what the assembler makes of a text, and their one text.
 use Rattle.std.specs.Prelude.{ℕ, List, [], ◌∷◌, ◌++◌, length, map, not, ◌&&◌, Bool, true, false, bytes_eq, codes, decimal, if◌then◌else◌}
-use Rattle.std.specs.List.{flat_map, list_all, list_any}
+use Rattle.std.specs.List.{flat_map, list_all}
 use Rattle.thunk_codec.specs.Thunk.{is_identifier}
 use Rattle.tool_bin.specs.declared.instruction.Instruction.{Instruction}
 use Rattle.tool_bin.specs.declared.object.Symbol.{Symbol}
 use Rattle.tool_bin.specs.declared.object.DebugLine.{DebugLine}
 use Rattle.tool_bin.specs.declared.object.Object.{Object}
 use Rattle.tool_bin.specs.Instruction.{instruction_text}
+use Rattle.tool_bin.specs.Names.{is_among}
 
 -- the first line of an object, and that of an executable
 abbrev pub object_head : List ℕ
@@ -40,7 +41,7 @@ names_of symbols = map (λ symbol. symbol.name) symbols
 -- no name is one of those before it
 abbrev pub are_new : List (List ℕ) → List (List ℕ) → Bool
 are_new before [] = true
-are_new before (name ∷ names) = not (list_any (bytes_eq name) before) && are_new (before ++ name ∷ []) names
+are_new before (name ∷ names) = not (is_among name before) && are_new (before ++ name ∷ []) names
 
 -- there is code
 abbrev pub has_code : List Instruction → Bool

@@ -4,7 +4,7 @@ ghost use Rattle.std.specs.Prelude.{◌≡◌, ◌++◌, IfOk, OnOk};
 ghost use Rattle.text_lines.specs.Blanks.{words_of};
 ghost use Rattle.tool_bin.specs.Instruction.{instruction_of, instruction_text, plain_of, operated_of, push_of, call_of};
 
-use object_name::{Bytes, read_number, write_number};
+use object_name::{Bytes, TryCopy, read_number, write_number};
 use std::alloc::{AllocError, Global};
 use text_lines::next_word;
 use thunk_codec::is_identifier;
@@ -19,6 +19,20 @@ pub enum Instruction {
     Print,
     Call(Bytes),
     Return,
+}
+
+impl TryCopy for Instruction {
+    fn copy(&self, alloc: Global) -> Result<Self, AllocError> {
+        match self {
+            Instruction::Push(number) => Ok(Instruction::Push(*number)),
+            Instruction::Add => Ok(Instruction::Add),
+            Instruction::Subtract => Ok(Instruction::Subtract),
+            Instruction::Multiply => Ok(Instruction::Multiply),
+            Instruction::Print => Ok(Instruction::Print),
+            Instruction::Call(name) => Ok(Instruction::Call(name.copy(alloc)?)),
+            Instruction::Return => Ok(Instruction::Return),
+        }
+    }
 }
 
 /// Appends what the line of an instruction says.

@@ -6,21 +6,34 @@ mod archive;
 mod archive_reading;
 mod archive_task;
 mod archive_writing;
+mod as_tool;
 mod assembly;
+mod cc1_tool;
+mod definition;
 mod instruction;
+mod ld_tool;
+mod link_fault;
+mod linking;
 mod names;
 mod object;
 mod object_reading;
 mod putting;
 mod rules;
+mod source;
+mod statement;
 mod status;
 mod symbol_table;
+mod strip_tool;
 
 pub use ar_tool::{ar, ranlib};
 pub use archive::{Archive, Member, read_archive};
+pub use as_tool::as_;
+pub use cc1_tool::cc1;
 pub use instruction::Instruction;
-pub use object::{DebugLine, Object, Symbol, write_object};
+pub use ld_tool::ld;
+pub use object::{DebugLine, EXECUTABLE_HEAD, OBJECT_HEAD, Object, Symbol, write_object};
 pub use object_reading::{read_object, symbol_names};
+pub use strip_tool::strip;
 
 #[cfg(test)]
 mod tests;

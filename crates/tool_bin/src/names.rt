@@ -1,8 +1,8 @@
 //! Names, each of them once.
 
-ghost use Rattle.std.specs.Prelude.{◌≡◌, [], not, IfOk, OnOk, bytes_eq};
-ghost use Rattle.std.specs.List.{list_any};
-ghost use Rattle.indexmap.specs.IndexSet.{insert_key};
+ghost use Rattle.std.specs.Prelude.{◌≡◌, [], not, IfOk, OnOk};
+ghost use Rattle.std.specs.List.{list_all};
+ghost use Rattle.tool_bin.specs.Names.{is_among, with_name};
 
 use indexmap::IndexSet;
 use object_name::Bytes;
@@ -30,15 +30,22 @@ impl Names {
 
     /// Whether a name is among them.
     pub(crate) fn contains(&self, name: &Bytes) -> bool
-        ensures { result ≡ list_any (bytes_eq name.now) self.now }
+        ensures { result ≡ is_among name.now self.now }
     {
         self.0.contains(name)
     }
 
+    /// Whether all are among others.
+    pub(crate) fn are_among(&self, others: &Names) -> bool
+        ensures { result ≡ list_all (λ name. is_among name others.now) self.now }
+    {
+        self.0.as_slice().iter().all(|name| others.contains(name))
+    }
+
     /// Puts a name behind the others where it is new, and says whether it was.
     pub(crate) fn add(&mut self, alloc: Global, name: &Bytes) -> Result<bool, AllocError>
-        ensures new { IfOk result (λ added. added ≡ not (list_any (bytes_eq name.now) self.old)) }
-        ensures names { OnOk result (self.new ≡ insert_key bytes_eq self.old name.now) }
+        ensures new { IfOk result (λ added. added ≡ not (is_among name.now self.old)) }
+        ensures names { OnOk result (self.new ≡ with_name self.old name.now) }
     {
         let copy = Bytes::from_slice(alloc, name.as_slice())?;
         let (_, added) = self.0.insert_full(copy)?;

@@ -6,8 +6,14 @@ ghost use Rattle.tool_bin.specs.Instruction.{instruction_text};
 ghost use Rattle.tool_bin.specs.Object.{line, symbol_text, debug_text, object_text};
 
 use crate::instruction::{Instruction, write_instruction};
-use object_name::{Bytes, Many, write_number};
+use object_name::{Bytes, Many, TryCopy, write_number};
 use std::alloc::{AllocError, Global};
+
+/// The first line of an object.
+pub const OBJECT_HEAD: &[u8] = b"gg-obj 1";
+
+/// The first line of an executable.
+pub const EXECUTABLE_HEAD: &[u8] = b"gg-exe 1";
 
 /// A name and the code that it stands for.
 #[derive(Debug, Drop)]
@@ -30,8 +36,26 @@ pub struct Object {
     pub debug: Many<DebugLine>,
 }
 
+impl TryCopy for Symbol {
+    fn copy(&self, alloc: Global) -> Result<Self, AllocError> {
+        let name = self.name.copy(alloc)?;
+        let code = self.code.copy(alloc)?;
+        Ok(Symbol { name, code })
+    }
+}
+
+impl TryCopy for DebugLine {
+    fn copy(&self, alloc: Global) -> Result<Self, AllocError> {
+        let name = self.name.copy(alloc)?;
+        Ok(DebugLine {
+            name,
+            number: self.number,
+        })
+    }
+}
+
 /// Appends the lines of some instructions.
-fn write_code(code: &[Instruction], out: &mut Bytes) -> Result<(), AllocError>
+pub(crate) fn write_code(code: &[Instruction], out: &mut Bytes) -> Result<(), AllocError>
     ensures { OnOk result (out.new ≡ out.old ++ flat_map (λ instruction. line (instruction_text instruction)) code.now) }
 {
     'code: for instruction in code {

@@ -11,7 +11,7 @@ ghost use Rattle.tool_bin.specs.Reading.{with_numbered, with_code, with_three, t
 
 use crate::assembly::Assembly;
 use crate::instruction::read_instruction;
-use crate::object::{Object, Symbol, write_object};
+use crate::object::{OBJECT_HEAD, Object, Symbol, write_object};
 use crate::rules::keeps_rules;
 use object_name::{Bytes, Many, read_number};
 use std::alloc::{AllocError, Global};
@@ -101,7 +101,11 @@ fn with_lines(alloc: Global, text: &[u8]) -> Result<Assembly, AllocError>
 
 /// The object whose text with this first line the bytes are.
 #[tactic(auto, unfolding(crate::specs::Reading::object_of))]
-fn read_with(alloc: Global, head: &[u8], bytes: &[u8]) -> Result<Option<Object>, AllocError>
+pub(crate) fn read_with(
+    alloc: Global,
+    head: &[u8],
+    bytes: &[u8],
+) -> Result<Option<Object>, AllocError>
     ensures { IfOk result (λ object. object ≡ object_of head.now bytes.now) }
 {
     let object = with_lines(alloc, bytes)?.into_object()?;
@@ -119,7 +123,7 @@ fn read_with(alloc: Global, head: &[u8], bytes: &[u8]) -> Result<Option<Object>,
 pub fn read_object(alloc: Global, bytes: &[u8]) -> Result<Option<Object>, AllocError>
     ensures { IfOk result (λ object. object ≡ object_of object_head bytes.now) }
 {
-    read_with(alloc, b"gg-obj 1", bytes)
+    read_with(alloc, OBJECT_HEAD, bytes)
 }
 
 /// The names of some symbols.
