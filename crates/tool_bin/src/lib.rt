@@ -30,4 +30,10 @@ pub use object_reading::{read_object, symbol_names};
 pub use strip_tool::strip;
 
 #[cfg(test)]
+mod compile_tests;
+#[cfg(test)]
+mod link_tests;
+#[cfg(test)]
+mod test_jobs;
+#[cfg(test)]
 mod tests;
