@@ -12,3 +12,4 @@ pub mod ArchiveReading
 pub mod Faults
 pub mod Linking
 pub mod Link
+pub mod Well

@@ -8,6 +8,7 @@ mod assembly;
 mod cc1_tool;
 mod definition;
 mod instruction;
+pub mod laws;
 mod ld_tool;
 mod link_fault;
 mod linking;
