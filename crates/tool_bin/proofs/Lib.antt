@@ -5,3 +5,6 @@ pub mod Tables
 pub mod Givens
 pub mod Puts
 pub mod Passes
+pub mod PlainWords
+pub mod Texts
+pub mod ReadsBack

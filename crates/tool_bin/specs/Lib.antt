@@ -14,3 +14,4 @@ pub mod Ar
 pub mod Faults
 pub mod Linking
 pub mod Link
+pub mod Well

@@ -11,6 +11,7 @@ mod assembly;
 mod cc1_tool;
 mod definition;
 mod instruction;
+pub mod laws;
 mod ld_tool;
 mod link_fault;
 mod linking;
@@ -35,5 +36,11 @@ pub use object::{DebugLine, EXECUTABLE_HEAD, OBJECT_HEAD, Object, Symbol, write_
 pub use object_reading::{read_object, symbol_names};
 pub use strip_tool::strip;
 
+#[cfg(test)]
+mod compile_tests;
+#[cfg(test)]
+mod link_tests;
+#[cfg(test)]
+mod test_jobs;
 #[cfg(test)]
 mod tests;
