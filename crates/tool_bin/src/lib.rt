@@ -37,6 +37,8 @@ pub use object_reading::{read_object, symbol_names};
 pub use strip_tool::strip;
 
 #[cfg(test)]
+mod archive_tests;
+#[cfg(test)]
 mod compile_tests;
 #[cfg(test)]
 mod link_tests;
