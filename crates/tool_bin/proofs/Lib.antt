@@ -4,6 +4,8 @@ pub mod Listing
 pub mod Tables
 pub mod Givens
 pub mod Puts
+pub mod FieldsReadBack
+pub mod ArchivesReadBack
 pub mod Passes
 pub mod PlainWords
 pub mod Texts

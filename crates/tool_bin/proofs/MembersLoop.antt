@@ -71,7 +71,7 @@ with_front-more : (front : List ArchiveMember) (x : ArchiveMember) (read : Optio
 with_front-more front x (Some others) = ap (λ (v : List ArchiveMember). Some v) (sym (append_assoc front (x ∷ []) others))
 with_front-more front x None = refl
 
-one_member : (most : ℕ) (bytes : List ℕ) (x : ArchiveMember) (after : List ℕ) → member_at bytes ≡ Some (x, after) → 0 < length bytes → members_at (suc most) bytes ≡ (members_at most after >>= λ others. Some (x ∷ others))
+pub one_member : (most : ℕ) (bytes : List ℕ) (x : ArchiveMember) (after : List ℕ) → member_at bytes ≡ Some (x, after) → 0 < length bytes → members_at (suc most) bytes ≡ (members_at most after >>= λ others. Some (x ∷ others))
 unfolding members_at
 one_member most [] x after read some = absurd (omega (arith, some))
 one_member most (byte ∷ bytes) x after read some = rw read refl

@@ -26,7 +26,7 @@ places_shifted first here (member ∷ members) =
     map-append (λ place. first + place) (replicate (length (symbols_of member)) here) (places_from (here + len) members)
     ∙ ap (λ (v : List ℕ). v ++ map (λ place. first + place) (places_from (here + len) members)) (map-replicate first (length (symbols_of member)) here)
     ∙ ap (λ (v : List ℕ). replicate (length (symbols_of member)) (first + here) ++ v)
-      (places_shifted first (here + len) members ∙ ap (λ (n : ℕ). places_from n members) (let e : first + (here + len) ≡ first + here + len = omega arith in e))
+    (places_shifted first (here + len) members ∙ ap (λ (n : ℕ). places_from n members) (let e : first + (here + len) ≡ first + here + len = omega arith in e))
 
 -- there are as many places as symbols
 pub length-places_from : (here : ℕ) (members : List ArchiveMember) → length (places_from here members) ≡ length (flat_map symbols_of members)
@@ -114,7 +114,7 @@ unfolding by_places
 table_by members places names symbols is count_is =
     ap (λ (n : ℕ). size_within (table_size n (length names)) >>= λ size. table_with symbols (places_from (first_place size) members) names) count_is
     ∙ same_steps (size_within (table_size (length places) (length names))) (λ size. table_with symbols (places_from (first_place size) members) names) (λ size. table_with (length places) (map (λ place. first_place size + place) places) names)
-      (λ size. with_words symbols (length places) (places_from (first_place size) members) (map (λ place. first_place size + place) places) names count_is (words_behind members places (first_place size) is))
+    (λ size. with_words symbols (length places) (places_from (first_place size) members) (map (λ place. first_place size + place) places) names count_is (words_behind members places (first_place size) is))
 
 symbols_counted : (members : List ArchiveMember) (places : List ℕ) → places ≡ map capped (places_from 0 members) → length (flat_map symbols_of members) ≡ length places
 symbols_counted members places is = sym (ap (λ (v : List ℕ). length v) is ∙ length-map (places_from 0 members) capped ∙ length-places_from 0 members)

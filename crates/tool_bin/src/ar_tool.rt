@@ -45,7 +45,11 @@ fn before<'a>(alloc: Global, old: Option<&'a [u8]>) -> Result<Option<Archive<'a>
 }
 
 /// The archive of some members, with a table where there is to be one.
-fn archive_with(alloc: Global, has_table: bool, members: &[Member<'_>]) -> Result<Option<Bytes>, AllocError>
+fn archive_with(
+    alloc: Global,
+    has_table: bool,
+    members: &[Member<'_>],
+) -> Result<Option<Bytes>, AllocError>
     ensures { IfOk result (λ archive. archive ≡ archive_with has_table members.now) }
 {
     if !has_table {
@@ -102,7 +106,10 @@ pub fn ar(alloc: Global, job: &Job) -> Result<Outcome, AllocError>
     if job.outputs.len() != 1 {
         return Ok(Outcome::Failed(BAD_FORM));
     }
-    outcome_of(alloc, asked_of(alloc, job.args.as_slice(), job.inputs.as_slice())?)
+    outcome_of(
+        alloc,
+        asked_of(alloc, job.args.as_slice(), job.inputs.as_slice())?,
+    )
 }
 
 /// The outcome of a job of the card `ranlib`.

@@ -122,7 +122,7 @@ fifteen.bytes.o/0           0     0     644     0         `
 /// A table, a member without symbols, and an object behind it.
 const MIXED: &[u8] = b"!<arch>
 /               0           0     0     0       10        `
-\0\0\0\x01\0\0\0\x8aa\0t/              0           0     0     644     3         `
+\0\0\0\x01\0\0\0\x8ea\0t/              0           0     0     644     3         `
 444
 a.o/            0           0     0     644     32        `
 gg-obj 1
@@ -137,11 +137,7 @@ const GIVEN: &[(&[&[u8]], &[(&[u8], &[u8])], &[u8])] = &[
     (&[b"r"], &[], NOTHING),
     (&[b"rs"], &[], NO_SYMBOLS),
     (&[b"s"], &[(b"old", NOTHING)], NO_SYMBOLS),
-    (
-        &[b"r", b"a.o", b"b.o"],
-        &[(b"m0000", A), (b"m0001", B)],
-        AB,
-    ),
+    (&[b"r", b"a.o", b"b.o"], &[(b"m0000", A), (b"m0001", B)], AB),
     (
         &[b"r", b"a.o", b"b.o"],
         &[(b"m0000", A), (b"m0001", B), (b"old", AB)],
@@ -216,14 +212,7 @@ const NO_ARCHIVES: &[&[u8]] = &[
 ];
 
 /// Names that no member can have.
-const NO_NAMES: &[&[u8]] = &[
-    b"",
-    b"sixteen.bytes.oo",
-    b"a/b",
-    b"/",
-    b"a b",
-    b"a\x7f",
-];
+const NO_NAMES: &[&[u8]] = &[b"", b"sixteen.bytes.oo", b"a/b", b"/", b"a b", b"a\x7f"];
 
 /// Arguments and inputs that aren't of the form of `ar`.
 const NOT_ASKED: &[(&[&[u8]], &[(&[u8], &[u8])])] = &[
@@ -242,7 +231,10 @@ const NOT_ASKED: &[(&[&[u8]], &[(&[u8], &[u8])])] = &[
     (&[b"r", b"a.o"], &[(b"m000", A)]),
     (&[b"r", b"a.o", b"b.o"], &[(b"m0000", A), (b"m0002", B)]),
     (&[b"r", b"a/o"], &[(b"m0000", A), (b"m0001", A)]),
-    (&[b"r", b"a.o"], &[(b"m0000", A), (b"old", b""), (b"p", b"")]),
+    (
+        &[b"r", b"a.o"],
+        &[(b"m0000", A), (b"old", b""), (b"p", b"")],
+    ),
 ];
 
 fn ar_gives(

@@ -45,7 +45,12 @@ fn write_padding(size: usize, out: &mut Bytes) -> Result<(), AllocError>
 }
 
 /// Appends what follows the name in a part: the rest of its header, its contents and their padding.
-fn write_contents(alloc: Global, mode: &[u8], contents: &[u8], out: &mut Bytes) -> Result<(), AllocError>
+fn write_contents(
+    alloc: Global,
+    mode: &[u8],
+    contents: &[u8],
+    out: &mut Bytes,
+) -> Result<(), AllocError>
     ensures { OnOk result (out.new ≡ out.old ++ (numbers mode.now (length contents.now) ++ (contents.now ++ padding (length contents.now)))) }
 {
     write_numbers(alloc, mode, contents.len(), out)?;
@@ -99,7 +104,11 @@ fn write_members(alloc: Global, members: &[Member<'_>], out: &mut Bytes) -> Resu
 }
 
 /// The archive of a table, if there is one, and members.
-pub fn write_archive(alloc: Global, table: Option<&[u8]>, members: &[Member<'_>]) -> Result<Bytes, AllocError>
+pub fn write_archive(
+    alloc: Global,
+    table: Option<&[u8]>,
+    members: &[Member<'_>],
+) -> Result<Bytes, AllocError>
     ensures { IfOk result (λ archive. archive ≡ archive_text (option_copied table.entry) members.now) }
 {
     let mut archive = Bytes::from_slice(alloc, ARCHIVE_MARK)?;

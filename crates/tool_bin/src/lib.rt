@@ -3,6 +3,7 @@
 
 mod ar_tool;
 mod archive;
+pub mod archive_laws;
 mod archive_reading;
 mod archive_task;
 mod archive_writing;
@@ -23,8 +24,8 @@ mod rules;
 mod source;
 mod statement;
 mod status;
-mod symbol_table;
 mod strip_tool;
+mod symbol_table;
 
 pub use ar_tool::{ar, ranlib};
 pub use archive::{Archive, Member, read_archive};

@@ -134,7 +134,12 @@ fn joined(alloc: Global, symbols: u32, places: &Bytes, names: &Bytes) -> Result<
 }
 
 /// The table of symbols with these places behind the first and these ended names, if it can hold them.
-fn table_with(alloc: Global, first: u64, places: &[u64], names: &Bytes) -> Result<Option<Bytes>, AllocError>
+fn table_with(
+    alloc: Global,
+    first: u64,
+    places: &[u64],
+    names: &Bytes,
+) -> Result<Option<Bytes>, AllocError>
     ensures { IfOk result (λ table. table ≡ table_with (length places.now) (map (λ place. first + place) places.now) names.now) }
 {
     let Some(symbols) = word_of(places.len() as u64) else {
