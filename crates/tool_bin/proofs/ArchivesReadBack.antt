@@ -65,15 +65,15 @@ size_found name between size are = rw (end_found name between size) (ap size_in 
 -- ---- parts
 
 -- the fields between of a mode
-record IsBetween (mode between : List ℕ) : Type 0 where
+pub record IsBetween (mode between : List ℕ) : Type 0 where
   pub len : length between ≡ 32
   pub is : (size : ℕ) → numbers mode size ≡ between ++ (field 10 (decimal size) ++ header_end)
 
-member_between : IsBetween (codes "644") (field 12 (codes "0") ++ (field 6 (codes "0") ++ (field 6 (codes "0") ++ field 8 (codes "644"))))
+pub member_between : IsBetween (codes "644") (field 12 (codes "0") ++ (field 6 (codes "0") ++ (field 6 (codes "0") ++ field 8 (codes "644"))))
 unfolding numbers
 member_between = record { len = refl; is = λ size. refl }
 
-table_between : IsBetween (codes "0") (field 12 (codes "0") ++ (field 6 (codes "0") ++ (field 6 (codes "0") ++ field 8 (codes "0"))))
+pub table_between : IsBetween (codes "0") (field 12 (codes "0") ++ (field 6 (codes "0") ++ (field 6 (codes "0") ++ field 8 (codes "0"))))
 unfolding numbers
 table_between = record { len = refl; is = λ size. refl }
 
@@ -88,6 +88,11 @@ part_is spelled mode between contents rest is =
 
 are_fields : (spelled mode between : List ℕ) (n : ℕ) → IsBetween mode between → length spelled ≤ 16 → n < 10 ^ 10 → AreFields (field 16 spelled) between (field 10 (decimal n))
 are_fields spelled mode between n is short small = record { first = field_len 16 spelled short; middle = is.len; last = size_len n small }
+
+-- how long a header is
+pub header_len : (spelled mode between : List ℕ) (n : ℕ) → IsBetween mode between → length spelled ≤ 16 → n < 10 ^ 10 → length (header spelled mode n) ≡ 60
+header_len spelled mode between n is short small =
+    ap (λ (v : List ℕ). length (field 16 spelled ++ v)) (is.is n) ∙ fields_len (field 16 spelled) between (field 10 (decimal n)) (are_fields spelled mode between n is short small)
 
 behind_by : (name between size table rest : List ℕ) → AreFields name between size → size_in size ≡ Some (length table) → behind_table (fields name between size ++ (table ++ (padding (length table) ++ rest))) ≡ Some rest
 unfolding behind_table

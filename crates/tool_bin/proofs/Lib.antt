@@ -6,6 +6,7 @@ pub mod Givens
 pub mod Puts
 pub mod FieldsReadBack
 pub mod ArchivesReadBack
+pub mod TablePlaces
 pub mod Passes
 pub mod PlainWords
 pub mod Texts

@@ -1,5 +1,5 @@
 -- The table of symbols of an archive in the GNU form.
-use Rattle.std.specs.Prelude.{ℕ, List, [], ◌∷◌, ◌++◌, ◌+◌, ◌*◌, ◌-◌, ◌%◌, ◌^◌, min, nat_lt, length, replicate, unwrap_or, Bool, Option, Some, None, if◌then◌else◌}
+use Rattle.std.specs.Prelude.{ℕ, List, [], ◌∷◌, ◌++◌, ◌+◌, ◌*◌, ◌-◌, ◌%◌, ◌^◌, min, nat_lt, length, replicate, sum_by, unwrap_or, Bool, Option, Some, None, if◌then◌else◌}
 use Rattle.std.specs.List.{list_all, flat_map}
 use Rattle.thunk_codec.specs.Job.{count}
 use Rattle.thunk_codec.specs.Maybe.{◌>>=◌, ◌>>◌, check}
@@ -23,6 +23,10 @@ unfoldable pub places_from : ℕ → List ArchiveMember → List ℕ
 places_from place [] = []
 places_from place (member ∷ members) =
     replicate (length (symbols_of member)) place ++ places_from (place + part_len (length member.contents)) members
+
+-- where the part behind some members stands, the first of which stands at this place
+abbrev pub place_behind : ℕ → List ArchiveMember → ℕ
+place_behind place members = place + sum_by (λ member. part_len (length member.contents)) members
 
 -- the size of a table of so many symbols, whose ended names have so many bytes together
 abbrev pub table_size : ℕ → ℕ → ℕ
