@@ -1,18 +1,18 @@
 -- Archives are read back from their texts.
-use Rattle.std.proofs.Common.{◌≡◌, ℕ, zero, suc, ◌+◌, ◌-◌, ◌<◌, ◌≤◌, ◌^◌, Bool, true, false, not, ◌&&◌, ltb, leb, eqb, List, [], ◌∷◌, ◌++◌, length, take, drop, append_assoc, length-append, Option, Some, None, refl, sym, ap, subst, ◌∙◌, arith}
+use Rattle.std.proofs.Common.{◌≡◌, ℕ, zero, suc, ◌+◌, ◌-◌, ◌<◌, ◌≤◌, ◌^◌, true, false, not, ◌&&◌, ltb, leb, eqb, List, [], ◌∷◌, ◌++◌, length, take, drop, append_assoc, length-append, Option, Some, None, refl, sym, ap, ◌∙◌, arith}
 use Rattle.std.specs.Prelude.{replicate, decimal, codes, nat_eq, is_some, IfSome}
-use Rattle.std.specs.List.{list_all, flat_map, starts_with, ends_with}
+use Rattle.std.specs.List.{list_all, flat_map, ends_with}
 use Rattle.std.proofs.lemmas.List.{take_at, drop_at, length-replicate}
 use Rattle.std.proofs.lemmas.Bool.{and_parts, le-leb, ltb-true, ne_eqb, not-true, eqb-false}
 use Rattle.std.proofs.lemmas.Bool.Decides.{Decides-eqb}
 use Rattle.std.proofs.lemmas.Slice.Eq.{ends_is}
 use Rattle.std.proofs.lemmas.Fmt.{length-decimal-le}
-use Rattle.thunk_codec.specs.Maybe.{◌>>=◌, ◌>>◌}
+use Rattle.thunk_codec.specs.Maybe.{◌>>=◌}
 use Rattle.thunk_codec.specs.Reading.{behind}
-use Rattle.tool_bin.specs.Archive.{ArchiveMember, ArchiveContents, archive_mark, archive_text, field, header, header_end, is_member, is_member_name, is_name_byte, member_text, numbers, padding, part, size_limit, table_name, table_part}
-use Rattle.tool_bin.specs.ArchiveReading.{all_members, archive_of, begins_with_table, behind_table, contents_at, header_at, member_at, members_at, name_in, name_of, size_in, size_of, with_table, without_table}
+use Rattle.tool_bin.specs.Archive.{ArchiveMember, archive_mark, archive_text, field, header, header_end, is_member, is_member_name, is_name_byte, member_text, numbers, padding, part, size_limit, table_name}
+use Rattle.tool_bin.specs.ArchiveReading.{all_members, archive_of, begins_with_table, behind_table, header_at, member_at, members_at, name_in, name_of, size_in, size_of}
 use Rattle.tool_bin.proofs.MembersLoop.{going_shortens, one_member}
-use Rattle.tool_bin.proofs.FieldsReadBack.{behind_found, contents_read, name_bytes, name_len, name_read, size_read}
+use Rattle.tool_bin.proofs.FieldsReadBack.{contents_read, name_bytes, name_len, name_read, size_read}
 
 -- ---- headers
 

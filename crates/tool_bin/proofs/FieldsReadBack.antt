@@ -1,17 +1,15 @@
 -- What the fields of a header say, where they are written.
-use Rattle.std.proofs.Common.{◌≡◌, ℕ, zero, suc, ◌+◌, ◌-◌, ◌<◌, ◌≤◌, ◌^◌, Bool, true, false, not, ◌&&◌, ltb, leb, eqb, List, [], ◌∷◌, ◌++◌, length, take, drop, get_or, append_assoc, length-append, Option, Some, None, refl, sym, ap, subst, ◌∙◌, arith}
-use Rattle.std.specs.Prelude.{replicate, decimal, nat_eq, position}
+use Rattle.std.proofs.Common.{◌≡◌, ℕ, zero, suc, ◌+◌, ◌-◌, ◌<◌, ◌≤◌, ◌^◌, true, not, ◌&&◌, ltb, leb, eqb, List, [], ◌∷◌, ◌++◌, length, take, drop, append_assoc, length-append, Some, refl, sym, ap, ◌∙◌, arith}
+use Rattle.std.specs.Prelude.{replicate, decimal, nat_eq}
 use Rattle.std.specs.Char.{is_ascii_digit}
 use Rattle.std.specs.Str.{all_ascii_digits}
 use Rattle.std.specs.List.{list_all, prefix_len, starts_with}
-use Rattle.std.proofs.lemmas.List.{take_at, drop_at, length-replicate}
-use Rattle.std.proofs.lemmas.Bool.{and_parts, lt-ltb, le-leb, ltb-true, leb-true}
+use Rattle.std.proofs.lemmas.List.{take_at, drop_at}
+use Rattle.std.proofs.lemmas.Bool.{and_parts, lt-ltb, le-leb, leb-true}
 use Rattle.std.proofs.lemmas.Bool.Decides.{Decides-eqb}
 use Rattle.std.proofs.lemmas.Slice.Eq.{starts_is}
-use Rattle.std.proofs.lemmas.Fmt.{length-decimal-le}
 use Rattle.object_name.specs.Number.{digits_value}
 use Rattle.object_name.proofs.NumberLemmas.{digits_value-decimal, digits-decimal, length-decimal-pos}
-use Rattle.thunk_codec.specs.Maybe.{◌>>=◌, ◌>>◌}
 use Rattle.thunk_codec.specs.Reading.{behind}
 use Rattle.tool_bin.specs.Archive.{field, is_member_name, is_name_byte, padding}
 use Rattle.tool_bin.specs.ArchiveReading.{contents_at, is_slash, is_space, name_in, size_in}

@@ -1,6 +1,6 @@
 -- The places that a table lists are those of the members' headers.
-use Rattle.std.proofs.Common.{◌≡◌, ℕ, zero, suc, ◌+◌, ◌-◌, ◌*◌, ◌%◌, ◌<◌, ◌≤◌, Bool, true, false, cond, eqb, ltb, ◌&&◌, List, [], ◌∷◌, ◌++◌, length, drop, append_assoc, length-append, Option, Some, None, refl, sym, ap, subst, ◌∙◌, arith}
-use Rattle.std.specs.Prelude.{replicate, decimal, codes, sum_by, flat_map}
+use Rattle.std.proofs.Common.{◌≡◌, ℕ, zero, suc, ◌+◌, ◌*◌, ◌%◌, ◌<◌, ◌≤◌, Bool, true, false, cond, eqb, ltb, List, [], ◌∷◌, ◌++◌, length, drop, append_assoc, length-append, Some, None, refl, sym, ap, ◌∙◌, arith}
+use Rattle.std.specs.Prelude.{replicate, codes, sum_by, flat_map}
 use Rattle.std.specs.List.{list_all}
 use Rattle.std.proofs.lemmas.List.{drop_at}
 use Rattle.std.proofs.lemmas.List.Sums.{sum_by-cons}
@@ -8,9 +8,9 @@ use Rattle.std.proofs.lemmas.Grind.{flat_map-append}
 use Rattle.std.proofs.lemmas.Bool.{and_parts, ltb-true}
 use Rattle.std.proofs.lemmas.Option.{same_Some}
 use Rattle.thunk_codec.specs.Job.{count}
-use Rattle.thunk_codec.specs.Maybe.{◌>>=◌, ◌>>◌}
+use Rattle.thunk_codec.specs.Maybe.{◌>>=◌}
 use Rattle.thunk_codec.proofs.Steps.{bind_some, test_some}
-use Rattle.tool_bin.specs.Archive.{ArchiveMember, archive_mark, archive_text, field, header, is_member, is_member_name, member_text, padding, part, size_limit, table_name}
+use Rattle.tool_bin.specs.Archive.{ArchiveMember, archive_mark, archive_text, header, is_member, is_member_name, member_text, padding, part, size_limit, table_name}
 use Rattle.tool_bin.specs.ArchiveReading.{member_at}
 use Rattle.tool_bin.specs.SymbolTable.{ended, first_place, is_word, part_len, place_behind, places_from, size_within, symbols_of, table_of, table_size, table_with, words_of}
 use Rattle.tool_bin.proofs.Tables.{length-places_from}
@@ -66,8 +66,8 @@ member_stands table before member behind small good =
     let rest = member_text member ++ flat_map member_text behind in
     let whole : archive_text (Some table) (before ++ member ∷ behind) ≡ (archive_mark ++ (front ++ texts)) ++ rest
     = ap (λ (v : List ℕ). archive_mark ++ (front ++ v)) (flat_map-append member_text before (member ∷ behind))
-      ∙ ap (λ (v : List ℕ). archive_mark ++ v) (sym (append_assoc front texts rest))
-      ∙ sym (append_assoc archive_mark (front ++ texts) rest) in
+    ∙ ap (λ (v : List ℕ). archive_mark ++ v) (sym (append_assoc front texts rest))
+    ∙ sym (append_assoc archive_mark (front ++ texts) rest) in
     let len : length (archive_mark ++ (front ++ texts)) ≡ place_behind (first_place (length table)) before
     = omega (arith, length-append archive_mark (front ++ texts), length-append front texts, length-part table_name (codes "0") _ table table_between (omega arith) small, length-members before parts.0) in
     ap (λ (v : List ℕ). member_at (drop (place_behind (first_place (length table)) before) v)) whole

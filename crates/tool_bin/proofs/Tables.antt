@@ -1,13 +1,11 @@
 -- The table of symbols, from the places of members behind the first.
-use Rattle.std.proofs.Common.{◌≡◌, ℕ, zero, suc, ◌+◌, ◌^◌, ◌<◌, ◌≤◌, ◌⊎◌, Bool, true, false, cond, ltb, get_or, List, [], ◌∷◌, ◌++◌, length, map, Option, Some, None, refl, sym, ap, subst, ◌∙◌, arith, inl, inr}
-use Rattle.std.specs.Prelude.{replicate, flat_map, ◌&&◌}
+use Rattle.std.proofs.Common.{◌≡◌, ℕ, zero, suc, ◌+◌, ◌^◌, ◌<◌, ◌⊎◌, Bool, true, false, cond, get_or, List, [], ◌∷◌, ◌++◌, length, map, Option, Some, None, refl, sym, ap, ◌∙◌, arith, inl, inr}
+use Rattle.std.specs.Prelude.{replicate, flat_map}
 use Rattle.std.specs.List.{list_all}
 use Rattle.std.proofs.lemmas.List.{map-append, length-map, length-replicate, length-append}
-use Rattle.std.proofs.lemmas.Bool.{cases_lt, lt-ltb, le-ltb}
+use Rattle.std.proofs.lemmas.Bool.{cases_lt, le-ltb}
 use Rattle.std.proofs.Math.Bool.{and-false}
-use Rattle.std.proofs.lemmas.Grind.{flat_map-append}
-use Rattle.thunk_codec.specs.Job.{count}
-use Rattle.thunk_codec.specs.Maybe.{◌>>=◌, ◌>>◌}
+use Rattle.thunk_codec.specs.Maybe.{◌>>=◌}
 use Rattle.tool_bin.specs.Archive.{ArchiveMember}
 use Rattle.tool_bin.specs.SymbolTable.{capped, ended, first_place, is_word, part_len, places_from, size_within, symbols_of, table_of, table_size, table_with, word_of, words_of}
 

@@ -18,13 +18,13 @@ pub fn archives_read_back()
 pub fn tables_say_places()
     ensures says { (table : List ℕ) (members : List ArchiveMember) → table_of members ≡ Some table
         → table ≡ count (length (flat_map symbols_of members))
-            ++ (flat_map count (places_from (first_place (length table)) members) ++ flat_map ended (flat_map symbols_of members)) }
+        ++ (flat_map count (places_from (first_place (length table)) members) ++ flat_map ended (flat_map symbols_of members)) }
     ensures places { (place : ℕ) (before : List ArchiveMember) (member : ArchiveMember) (behind : List ArchiveMember)
         → places_from place (before ++ member ∷ behind) ≡ places_from place before
-            ++ (replicate (length (symbols_of member)) (place_behind place before)
-            ++ places_from (place_behind place before + part_len (length member.contents)) behind) }
+        ++ (replicate (length (symbols_of member)) (place_behind place before)
+        ++ places_from (place_behind place before + part_len (length member.contents)) behind) }
     ensures stand { (table : List ℕ) (before : List ArchiveMember) (member : ArchiveMember) (behind : List ArchiveMember)
         → length table < size_limit → list_all is_member (before ++ member ∷ behind) ≡ true
         → member_at (drop (place_behind (first_place (length table)) before) (archive_text (Some table) (before ++ member ∷ behind)))
-            ≡ Some (member, flat_map member_text behind) }
+        ≡ Some (member, flat_map member_text behind) }
 {}
