@@ -1,0 +1,13 @@
+pub mod HeaderFields
+pub mod MembersLoop
+pub mod Listing
+pub mod Tables
+pub mod Givens
+pub mod Puts
+pub mod FieldsReadBack
+pub mod ArchivesReadBack
+pub mod TablePlaces
+pub mod Passes
+pub mod PlainWords
+pub mod Texts
+pub mod ReadsBack

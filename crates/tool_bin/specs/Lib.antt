@@ -1,0 +1,17 @@
+pub mod Names
+pub mod Instruction
+pub mod Object
+pub mod Assembly
+pub mod Reading
+pub mod Source
+pub mod Compile
+pub mod Assemble
+pub mod Strip
+pub mod Archive
+pub mod ArchiveReading
+pub mod SymbolTable
+pub mod Ar
+pub mod Faults
+pub mod Linking
+pub mod Link
+pub mod Well

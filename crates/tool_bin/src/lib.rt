@@ -1,7 +1,49 @@
 //! The cards that compile, assemble, link and keep archives: each a function of its job.
 #![tactic(auto)]
 
+mod ar_tool;
+mod archive;
+pub mod archive_laws;
+mod archive_reading;
+mod archive_task;
+mod archive_writing;
+mod as_tool;
+mod assembly;
+mod cc1_tool;
+mod definition;
+mod instruction;
+pub mod laws;
+mod ld_tool;
+mod link_fault;
+mod linking;
+mod names;
+mod object;
+mod object_reading;
+mod putting;
+mod rules;
+mod source;
+mod statement;
 mod status;
+mod strip_tool;
+mod symbol_table;
 
+pub use ar_tool::{ar, ranlib};
+pub use archive::{Archive, Member, read_archive};
+pub use as_tool::as_;
+pub use cc1_tool::cc1;
+pub use instruction::Instruction;
+pub use ld_tool::ld;
+pub use object::{DebugLine, EXECUTABLE_HEAD, OBJECT_HEAD, Object, Symbol, write_object};
+pub use object_reading::{read_object, symbol_names};
+pub use strip_tool::strip;
+
+#[cfg(test)]
+mod archive_tests;
+#[cfg(test)]
+mod compile_tests;
+#[cfg(test)]
+mod link_tests;
+#[cfg(test)]
+mod test_jobs;
 #[cfg(test)]
 mod tests;

@@ -1,0 +1,54 @@
+//! Names, each of them once.
+
+ghost use Rattle.std.specs.Prelude.{◌≡◌, [], not, IfOk, OnOk};
+ghost use Rattle.std.specs.List.{list_all};
+ghost use Rattle.tool_bin.specs.Names.{is_among, with_name};
+
+use indexmap::IndexSet;
+use object_name::Bytes;
+use std::alloc::{AllocError, Global};
+use std::marker::Model;
+
+/// Names in the order in which they came.
+#[derive(Drop)]
+pub(crate) struct Names(IndexSet<Bytes>);
+
+impl Model for Names {
+    ghost use Rattle.std.specs.Prelude.{List, ℕ};
+
+    ghost Value = { List (List ℕ) };
+
+    ghost view = { λ names. names.0.keys };
+}
+
+impl Names {
+    pub(crate) fn new(alloc: Global) -> Self
+        ensures { result ≡ [] }
+    {
+        Names(IndexSet::new(alloc))
+    }
+
+    /// Whether a name is among them.
+    pub(crate) fn contains(&self, name: &Bytes) -> bool
+        ensures { result ≡ is_among name.now self.now }
+    {
+        self.0.contains(name)
+    }
+
+    /// Whether all are among others.
+    pub(crate) fn are_among(&self, others: &Names) -> bool
+        ensures { result ≡ list_all (λ name. is_among name others.now) self.now }
+    {
+        self.0.as_slice().iter().all(|name| others.contains(name))
+    }
+
+    /// Puts a name behind the others where it is new, and says whether it was.
+    pub(crate) fn add(&mut self, alloc: Global, name: &Bytes) -> Result<bool, AllocError>
+        ensures new { IfOk result (λ added. added ≡ not (is_among name.now self.old)) }
+        ensures names { OnOk result (self.new ≡ with_name self.old name.now) }
+    {
+        let copy = Bytes::from_slice(alloc, name.as_slice())?;
+        let (_, added) = self.0.insert_full(copy)?;
+        Ok(added)
+    }
+}
