@@ -4,3 +4,6 @@ pub mod Passes
 pub mod PlainWords
 pub mod Texts
 pub mod ReadsBack
+pub mod Whenever
+pub mod Sound
+pub mod Strips
