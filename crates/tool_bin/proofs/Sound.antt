@@ -1,16 +1,13 @@
 -- What is read from a text has names that are identifiers and numbers below 2 ^ 64.
-use Rattle.std.proofs.Common.{◌≡◌, ℕ, ◌<◌, ◌≤◌, ◌^◌, ◌+◌, ◌-◌, Bool, true, false, List, [], ◌∷◌, ◌++◌, length, take, length-append, Option, Some, None, ◌&&◌, codes, decimal, nat_eq, bytes_eq, refl, sym, ap, subst, ◌∙◌, arith}
+use Rattle.std.proofs.Common.{◌≡◌, ℕ, ◌<◌, ◌≤◌, ◌^◌, ◌-◌, true, List, [], ◌∷◌, ◌++◌, length, take, length-append, Option, Some, None, codes, decimal, nat_eq, bytes_eq, arith}
 use Rattle.std.specs.List.{flat_map, ends_with, AllByRecursion}
 use Rattle.object_name.specs.Number.{number_of}
 use Rattle.object_name.proofs.NumberLemmas.{decimal-number_of}
 use Rattle.text_lines.specs.Lines.{lines_of}
 use Rattle.text_lines.specs.Blanks.{words_of}
-use Rattle.thunk_codec.specs.Maybe.{◌>>=◌}
 use Rattle.thunk_codec.specs.Thunk.{is_identifier}
 use Rattle.tool_bin.specs.declared.assembly.Assembly.{Assembly}
 use Rattle.tool_bin.specs.declared.instruction.Instruction.{Instruction}
-use Rattle.tool_bin.specs.declared.instruction.Instruction.TheVariants.{Push, Add, Subtract, Multiply, Print, Call, Return}
-use Rattle.tool_bin.specs.declared.object.DebugLine.{DebugLine}
 use Rattle.tool_bin.specs.declared.object.Object.{Object}
 use Rattle.tool_bin.specs.declared.object.Symbol.{Symbol}
 use Rattle.tool_bin.specs.declared.statement.Statement.{Statement}

@@ -1,5 +1,5 @@
 -- What is stripped once is stripped.
-use Rattle.std.proofs.Common.{◌≡◌, ℕ, ◌<◌, ◌^◌, Bool, true, false, List, [], ◌∷◌, ◌++◌, length, get_or, Option, Some, None, ◌&&◌, codes, bytes_eq, refl, sym, ap, subst, ◌∙◌, if◌then◌else◌, arith}
+use Rattle.std.proofs.Common.{◌≡◌, ℕ, ◌<◌, ◌^◌, Bool, true, false, List, [], ◌∷◌, length, get_or, Option, Some, None, ◌&&◌, codes, bytes_eq, refl, sym, ap, subst, ◌∙◌, if◌then◌else◌, arith}
 use Rattle.std.proofs.lemmas.Bool.{and_parts, and_from}
 use Rattle.std.specs.List.{list_all, AllByRecursion}
 use Rattle.std.specs.Option.{option_or}
@@ -11,7 +11,7 @@ use Rattle.tool_bin.specs.declared.assembly.Assembly.{Assembly}
 use Rattle.tool_bin.specs.declared.instruction.Instruction.{Instruction}
 use Rattle.tool_bin.specs.declared.object.Object.{Object}
 use Rattle.tool_bin.specs.declared.object.Symbol.{Symbol}
-use Rattle.tool_bin.specs.Assembly.{no_assembly, all_symbols, with_label, with_instruction, symbol_with, with_debug, object_in}
+use Rattle.tool_bin.specs.Assembly.{no_assembly, all_symbols, with_label, symbol_with}
 use Rattle.tool_bin.specs.Instruction.{instruction_of}
 use Rattle.tool_bin.specs.Object.{object_head, executable_head, is_defined, are_new, names_of, are_in_order, object_text, keeps_rules}
 use Rattle.tool_bin.specs.Reading.{with_numbered, with_code, with_three, with_either, with_words, with_lines, three_of, object_of}
@@ -20,7 +20,7 @@ use Rattle.tool_bin.specs.Well.{IsWell}
 use Rattle.tool_bin.proofs.ReadsBack.{IsHead, reads_back, object_is_head, executable_is_head}
 use Rattle.tool_bin.proofs.Sound.{HasCode, instruction_well, well_object}
 use Rattle.tool_bin.proofs.Texts.{gathered, was_read, is_text}
-use Rattle.tool_bin.proofs.Whenever.{OnSome, at_some, all_more}
+use Rattle.tool_bin.proofs.Whenever.{OnSome, all_more}
 
 -- ---- instructions in an assembly
 

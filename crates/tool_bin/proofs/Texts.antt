@@ -46,8 +46,8 @@ unfolding object_of
 reads head object same rules =
     let text = object_text head object in
     if_true (keeps_rules (gathered text) && bytes_eq (object_text head (gathered text)) text) (gathered text)
-        (and_from (keeps_rules (gathered text)) (bytes_eq (object_text head (gathered text)) text) (ap keeps_rules same ∙ rules)
-            ((bytes_eq-Decides (object_text head (gathered text)) text).1 (ap (object_text head) same))) ∙ ap Some same
+    (and_from (keeps_rules (gathered text)) (bytes_eq (object_text head (gathered text)) text) (ap keeps_rules same ∙ rules)
+    ((bytes_eq-Decides (object_text head (gathered text)) text).1 (ap (object_text head) same))) ∙ ap Some same
 
 -- ---- texts that begin with another line
 
