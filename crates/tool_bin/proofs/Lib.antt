@@ -11,3 +11,6 @@ pub mod Passes
 pub mod PlainWords
 pub mod Texts
 pub mod ReadsBack
+pub mod Whenever
+pub mod Sound
+pub mod Strips

@@ -1,10 +1,9 @@
 -- Passes over the objects of an archive, as a loop makes them.
-use Rattle.std.proofs.Common.{◌≡◌, ℕ, zero, suc, ◌<◌, ◌-◌, ◌+◌, List, length, Result, Ok, Err, refl, sym, ap, ◌∙◌, arith}
+use Rattle.std.proofs.Common.{◌≡◌, ℕ, zero, suc, ◌<◌, ◌-◌, List, length, Ok, Err, refl, sym, ap, ◌∙◌, arith}
 use Rattle.std.proofs.lemmas.Bool.{eq-eqb, ne_eqb}
 use Rattle.tool_bin.specs.declared.link_fault.LinkFault.{LinkFault}
 use Rattle.tool_bin.specs.declared.linking.Linking.{Linking}
 use Rattle.tool_bin.specs.declared.object.Object.{Object}
-use Rattle.tool_bin.specs.Faults.{Linked, ◌>>=◌}
 use Rattle.tool_bin.specs.Link.{pass, searched}
 
 pub failed_pass : (n : ℕ) (linking : Linking) (objects : List Object) (fault : LinkFault) → 0 < n → pass linking objects ≡ Err fault → searched n linking objects ≡ Err fault

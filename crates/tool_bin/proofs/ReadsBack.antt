@@ -1,10 +1,9 @@
 -- The text of an object says the object.
-use Rattle.std.proofs.Common.{◌≡◌, ℕ, ◌<◌, ◌^◌, Bool, true, false, List, [], ◌∷◌, ◌++◌, length, append_assoc, Option, Some, None, ◌&&◌, codes, decimal, refl, sym, ap, ◌∙◌, arith}
+use Rattle.std.proofs.Common.{◌≡◌, ℕ, ◌<◌, ◌^◌, true, List, [], ◌∷◌, ◌++◌, length, append_assoc, Option, Some, None, ◌&&◌, codes, decimal, refl, sym, ap, ◌∙◌}
 use Rattle.std.proofs.lemmas.Bool.{and_parts, and_from}
 use Rattle.std.proofs.lemmas.List.{append-nil}
 use Rattle.std.proofs.lemmas.List.Folds.{list_all-append}
 use Rattle.std.specs.List.{flat_map, list_all, AllByRecursion}
-use Rattle.object_name.specs.Number.{number_of}
 use Rattle.object_name.proofs.NumberLemmas.{number_of-decimal}
 use Rattle.text_lines.specs.Lines.{lines_of}
 use Rattle.text_lines.specs.Blanks.{words_of}
@@ -21,7 +20,7 @@ use Rattle.tool_bin.specs.Instruction.{instruction_text, plain_of, operated_of, 
 use Rattle.tool_bin.specs.Object.{object_head, executable_head, line, symbol_text, debug_text, object_text, has_code, is_defined, names_of, are_new, are_in_order, keeps_rules}
 use Rattle.tool_bin.specs.Reading.{with_numbered, with_code, with_either, with_words, with_lines, three_of, object_of}
 use Rattle.tool_bin.specs.Well.{IsWell, IsWellSymbol, IsWellDebug, IsWellObject}
-use Rattle.tool_bin.proofs.PlainWords.{is_no_feed, is_plain, no_feeds, line_first, word_first, word_last, plain_number, some_number, plain_identifier, some_identifier}
+use Rattle.tool_bin.proofs.PlainWords.{is_no_feed, no_feeds, line_first, word_first, word_last, plain_number, some_number, plain_identifier, some_identifier}
 use Rattle.tool_bin.proofs.Texts.{gathered, reads}
 
 -- ---- a line

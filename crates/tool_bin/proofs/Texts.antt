@@ -1,11 +1,13 @@
 -- An object that was read has the text that it was read from.
-use Rattle.std.proofs.Common.{◌≡◌, ℕ, Bool, true, false, List, Option, Some, None, ◌&&◌, if◌then◌else◌, bytes_eq, refl, sym, ap, ◌∙◌}
-use Rattle.std.proofs.lemmas.Bool.{and_parts, and_from}
+use Rattle.std.proofs.Common.{◌≡◌, ℕ, Bool, true, false, List, [], ◌∷◌, ◌++◌, length, take, append_assoc, nat_eq, codes, Option, Some, None, ◌&&◌, if◌then◌else◌, bytes_eq, refl, sym, ap, ◌∙◌}
+use Rattle.std.proofs.lemmas.Bool.{and_parts, and_from, both_ways}
 use Rattle.std.proofs.lemmas.Slice.Eq.{bytes_eq-Decides}
 use Rattle.text_lines.specs.Lines.{lines_of}
 use Rattle.tool_bin.specs.declared.object.Object.{Object}
 use Rattle.tool_bin.specs.Assembly.{no_assembly, object_in}
-use Rattle.tool_bin.specs.Object.{object_text, keeps_rules}
+use Rattle.tool_bin.specs.Object.{line, symbol_text, debug_text, object_text, keeps_rules}
+use Rattle.std.specs.List.{flat_map, starts_with}
+use Rattle.std.specs.Cmp.Lexicographic.{pointwise}
 use Rattle.tool_bin.specs.Reading.{object_of, with_lines}
 
 -- what the lines of some bytes say
@@ -46,3 +48,26 @@ reads head object same rules =
     if_true (keeps_rules (gathered text) && bytes_eq (object_text head (gathered text)) text) (gathered text)
     (and_from (keeps_rules (gathered text)) (bytes_eq (object_text head (gathered text)) text) (ap keeps_rules same ∙ rules)
     ((bytes_eq-Decides (object_text head (gathered text)) text).1 (ap (object_text head) same))) ∙ ap Some same
+
+-- ---- texts that begin with another line
+
+taken_front : (front rest : List ℕ) → take (length front) (front ++ rest) ≡ front
+taken_front [] rest = refl
+taken_front (byte ∷ front) rest = ap (λ (v : List ℕ). byte ∷ v) (taken_front front rest)
+
+begins : (front rest : List ℕ) → starts_with nat_eq (front ++ rest) front ≡ true
+begins front rest = ap (pointwise nat_eq front) (taken_front front rest) ∙ (bytes_eq-Decides front front).1 refl
+
+text_begins : (head : List ℕ) (object : Object) → starts_with nat_eq (object_text head object) head ≡ true
+unfolding object_text
+text_begins head object =
+    let rest = flat_map symbol_text object.symbols ++ (flat_map debug_text object.debug ++ line (codes "end")) in
+    ap (λ (v : List ℕ). starts_with nat_eq v head) (append_assoc head (10 ∷ []) rest) ∙ begins head (10 ∷ [] ++ rest)
+
+none_else : (read : Option Object) → ((object : Object) → read ≡ Some object → ⊥) → ◌≡◌ {A = Option Object} None read
+none_else None f = refl
+none_else (Some object) f = absurd (f object refl)
+
+pub not_headed : (head bytes : List ℕ) → starts_with nat_eq bytes head ≡ false → ◌≡◌ {A = Option Object} None (object_of head bytes)
+not_headed head bytes other = none_else (object_of head bytes) (λ object e.
+    both_ways (starts_with nat_eq bytes head) other (ap (λ (v : List ℕ). starts_with nat_eq v head) (is_text head bytes object e) ∙ text_begins head object))

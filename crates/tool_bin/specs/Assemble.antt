@@ -1,5 +1,5 @@
 -- The card `as`: labels, locations and instructions, made into an object.
-use Rattle.std.specs.Prelude.{ℕ, ◌-◌, List, [], ◌∷◌, length, take, nat_eq, ◌&&◌, Bool, Option, Some, None, bytes_eq, codes}
+use Rattle.std.specs.Prelude.{ℕ, ◌-◌, List, [], ◌∷◌, length, take, nat_eq, Option, Some, None, bytes_eq, codes}
 use Rattle.std.specs.List.{ends_with}
 use Rattle.std.specs.Option.{option_or}
 use Rattle.object_name.specs.Number.{number_of}

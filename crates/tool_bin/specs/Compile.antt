@@ -1,8 +1,7 @@
 -- The card `cc1`: functions written as words, made into lines for the assembler.
-use Rattle.std.specs.Prelude.{ℕ, ◌+◌, List, [], ◌∷◌, ◌++◌, map, fold, not, nat_eq, ◌&&◌, ◌||◌, Bool, true, false, Option, Some, None, bytes_eq, codes, decimal, if◌then◌else◌}
+use Rattle.std.specs.Prelude.{ℕ, ◌+◌, List, [], ◌∷◌, ◌++◌, map, fold, not, nat_eq, ◌&&◌, ◌||◌, Bool, false, Option, Some, None, bytes_eq, codes, decimal, if◌then◌else◌}
 use Rattle.std.specs.List.{flat_map, starts_with}
 use Rattle.std.specs.Option.{option_or}
-use Rattle.object_name.specs.Number.{number_of}
 use Rattle.text_lines.specs.Lines.{lines_of}
 use Rattle.text_lines.specs.Blanks.{words_of}
 use Rattle.thunk_codec.specs.declared.job.Job.{Job}
@@ -11,7 +10,7 @@ use Rattle.thunk_codec.specs.Maybe.{◌>>=◌, ◌>>◌, check}
 use Rattle.thunk_codec.specs.Thunk.{is_identifier}
 use Rattle.tool_bin.specs.declared.definition.Definition.{Definition}
 use Rattle.tool_bin.specs.declared.instruction.Instruction.{Instruction}
-use Rattle.tool_bin.specs.declared.instruction.Instruction.TheVariants.{Push, Add, Subtract, Multiply, Print, Call, Return}
+use Rattle.tool_bin.specs.declared.instruction.Instruction.TheVariants.{Add, Subtract, Multiply, Print, Call}
 use Rattle.tool_bin.specs.Instruction.{instruction_text, push_of}
 use Rattle.tool_bin.specs.Object.{line, are_new}
 use Rattle.tool_bin.specs.Source.{source_of, made_outcome}

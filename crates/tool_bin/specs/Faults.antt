@@ -1,5 +1,5 @@
 -- Steps of a link, one after another, each of which may fail.
-use Rattle.std.specs.Prelude.{ℕ, Bool, Result, Ok, Err, if◌then◌else◌}
+use Rattle.std.specs.Prelude.{ℕ, Result, Ok, Err}
 use Rattle.tool_bin.specs.declared.linking.Linking.{Linking}
 use Rattle.tool_bin.specs.declared.link_fault.LinkFault.{LinkFault}
 use Rattle.tool_bin.specs.declared.link_fault.LinkFault.TheVariants.{BadForm, BadArchive, SymbolTwice, SymbolUndefined, NotAnObject}

@@ -1,11 +1,10 @@
 -- The card `ld`: objects and members of archives, joined into an executable.
-use Rattle.std.specs.Prelude.{ℕ, zero, suc, List, [], ◌∷◌, ◌+◌, length, map, nat_eq, not, ◌==◌, ◌&&◌, Bool, Option, Some, None, is_some, Result, Ok, Err, if◌then◌else◌}
+use Rattle.std.specs.Prelude.{ℕ, zero, suc, List, [], ◌∷◌, ◌+◌, length, nat_eq, not, ◌==◌, ◌&&◌, Bool, Option, Some, None, is_some, Ok, Err, if◌then◌else◌}
 use Rattle.std.specs.List.{flat_map, list_all, starts_with}
 use Rattle.thunk_codec.specs.declared.job.Job.{Job}
 use Rattle.thunk_codec.specs.declared.job.Outcome.{Outcome}
 use Rattle.thunk_codec.specs.declared.job.Outcome.TheVariants.{Done, Failed}
 use Rattle.thunk_codec.specs.Job.{input_at}
-use Rattle.tool_bin.specs.declared.link_fault.LinkFault.{LinkFault}
 use Rattle.tool_bin.specs.declared.link_fault.LinkFault.TheVariants.{BadForm, BadArchive, NotAnObject}
 use Rattle.tool_bin.specs.declared.linking.Linking.{Linking}
 use Rattle.tool_bin.specs.declared.object.Object.{Object}

@@ -2,8 +2,7 @@
 use Rattle.std.specs.Prelude.{ℕ, List, [], ◌∷◌, ◌++◌, fold, not, ◌&&◌, Bool, Option, Some, None, Ok, Err, codes, if◌then◌else◌}
 use Rattle.std.specs.List.{list_all, list_any}
 use Rattle.tool_bin.specs.declared.instruction.Instruction.{Instruction}
-use Rattle.tool_bin.specs.declared.instruction.Instruction.TheVariants.{Push, Add, Subtract, Multiply, Print, Call, Return}
-use Rattle.tool_bin.specs.declared.link_fault.LinkFault.{LinkFault}
+use Rattle.tool_bin.specs.declared.instruction.Instruction.TheVariants.{Call}
 use Rattle.tool_bin.specs.declared.link_fault.LinkFault.TheVariants.{SymbolTwice, SymbolUndefined}
 use Rattle.tool_bin.specs.declared.linking.Linking.{Linking}
 use Rattle.tool_bin.specs.declared.object.Object.{Object}

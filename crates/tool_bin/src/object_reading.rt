@@ -108,6 +108,10 @@ pub(crate) fn read_with(
 ) -> Result<Option<Object>, AllocError>
     ensures { IfOk result (λ object. object ≡ object_of head.now bytes.now) }
 {
+    // What begins with another line isn't gone through.
+    if !bytes.starts_with(head) {
+        return Ok(None);
+    }
     let object = with_lines(alloc, bytes)?.into_object()?;
     if !keeps_rules(alloc, &object)? {
         return Ok(None);

@@ -1,0 +1,5 @@
+use Rattle.tool_bin.proofs.Sound.{assembled_reads}
+use Rattle.tool_bin.proofs.laws.assembled_reads_back.Goals as goal
+
+pub returns : goal.returns
+returns c = assembled_reads

@@ -1,0 +1,5 @@
+use Rattle.tool_bin.proofs.Strips.{strips_once}
+use Rattle.tool_bin.proofs.laws.stripped_once.Goals as goal
+
+pub returns : goal.returns
+returns c = strips_once
