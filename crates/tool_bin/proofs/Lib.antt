@@ -14,3 +14,4 @@ pub mod ReadsBack
 pub mod Whenever
 pub mod Sound
 pub mod Strips
+pub mod Fitting

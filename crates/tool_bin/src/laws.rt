@@ -1,12 +1,27 @@
-//! Laws of objects that no single call shows.
+//! Laws of the cards and of objects that no single call shows.
 
 ghost use Rattle.std.specs.Prelude.{◌≡◌, ◌<◌, ◌^◌, ℕ, List, Some, length, true};
+ghost use Rattle.thunk_codec.specs.declared.job.Job.{Job};
 ghost use Rattle.tool_bin.specs.declared.object.Object.{Object};
-ghost use Rattle.tool_bin.specs.Assemble.{assembled};
+ghost use Rattle.tool_bin.specs.Ar.{ar_outcome, ranlib_outcome};
+ghost use Rattle.tool_bin.specs.Assemble.{as_outcome, assembled};
+ghost use Rattle.tool_bin.specs.Compile.{cc1_outcome};
+ghost use Rattle.tool_bin.specs.Form.{HasForm};
+ghost use Rattle.tool_bin.specs.Link.{ld_outcome};
 ghost use Rattle.tool_bin.specs.Object.{object_head, executable_head, object_text, keeps_rules};
 ghost use Rattle.tool_bin.specs.Reading.{object_of};
-ghost use Rattle.tool_bin.specs.Strip.{stripped};
+ghost use Rattle.tool_bin.specs.Strip.{strip_outcome, stripped};
 ghost use Rattle.tool_bin.specs.Well.{IsWellObject};
+
+/// What a card gives is of the form that its job wants.
+pub fn outcomes_have_form()
+    ensures cc1 { (job : Job) → HasForm job (cc1_outcome job) }
+    ensures assembler { (job : Job) → HasForm job (as_outcome job) }
+    ensures ld { (job : Job) → HasForm job (ld_outcome job) }
+    ensures ar { (job : Job) → HasForm job (ar_outcome job) }
+    ensures ranlib { (job : Job) → HasForm job (ranlib_outcome job) }
+    ensures strip { (job : Job) → HasForm job (strip_outcome job) }
+{}
 
 /// A text that an object is read from is the text of that object. So no object has two texts, and no two have one.
 pub fn one_text()
