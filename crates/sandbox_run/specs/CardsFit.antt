@@ -7,9 +7,16 @@ use Rattle.thunk_codec.specs.declared.job.Outcome.{Outcome}
 use Rattle.thunk_codec.specs.declared.job.Outcome.TheVariants.{Done, Failed}
 use Rattle.thunk_codec.specs.Outcome.{Fits}
 use Rattle.tool_text.proofs.Fitting.{FitsWithin, of_choice, cat_fits, add_fits, fib_fits, fail_fits, cpp_fits}
+use Rattle.tool_bin.proofs.Fitting.{cc1_form, as_form, ld_form, ar_form, ranlib_form, strip_form}
+use Rattle.tool_bin.specs.Form.{HasForm}
 use Rattle.sandbox_run.specs.declared.card.Card.{Card}
-use Rattle.sandbox_run.specs.declared.card.Card.TheVariants.{Add, Cat, Cpp, Fail, Fib}
+use Rattle.sandbox_run.specs.declared.card.Card.TheVariants.{Add, Archive, Assemble, Cat, Compile, Fail, Fib, Index, Link, Preprocess, Strip}
 use Rattle.sandbox_run.specs.Cards.{card_of, tool_outcome, within_limit, outcome_by, card_outcome}
+
+-- an outcome of the form that a job wants fits it, where the outputs are within the limit
+form_fits : (job : Job) (outcome : Outcome) → HasForm job outcome → FitsWithin job outcome
+form_fits job (Done outputs) form within = (form, within)
+form_fits job (Failed status) form within = form
 
 -- what a tool gives fits its job, where the outputs are within the limit
 tool_fits : (card : Card) (job : Job) → FitsWithin job (tool_outcome card job)
@@ -17,7 +24,13 @@ tool_fits Cat job = cat_fits job
 tool_fits Add job = add_fits job
 tool_fits Fib job = fib_fits job
 tool_fits Fail job = λ _. fail_fits job
-tool_fits Cpp job = cpp_fits job
+tool_fits Preprocess job = cpp_fits job
+tool_fits Compile job = form_fits job _ (cc1_form job)
+tool_fits Assemble job = form_fits job _ (as_form job)
+tool_fits Link job = form_fits job _ (ld_form job)
+tool_fits Archive job = form_fits job _ (ar_form job)
+tool_fits Index job = form_fits job _ (ranlib_form job)
+tool_fits Strip job = form_fits job _ (strip_form job)
 
 limit_fits : (job : Job) (outcome : Outcome) → FitsWithin job outcome → Fits job (within_limit outcome)
 limit_fits job (Done outputs) fits =

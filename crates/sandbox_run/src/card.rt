@@ -5,16 +5,34 @@ ghost use Rattle.sandbox_run.specs.Cards.{card_of, tool_outcome};
 
 use std::alloc::{AllocError, Global};
 use thunk_codec::{Job, Outcome};
+use tool_bin::{ar, as_, cc1, ld, ranlib, strip};
 use tool_text::{add, cat, cpp, fail, fib};
 
 /// A tool that runs here.
 #[derive(Clone, Copy, Debug, PartialEq, Eq)]
 pub(crate) enum Card {
+    /// `add`
     Add,
+    /// `ar`
+    Archive,
+    /// `as`
+    Assemble,
+    /// `cat`
     Cat,
-    Cpp,
+    /// `cc1`
+    Compile,
+    /// `fail`
     Fail,
+    /// `fib`
     Fib,
+    /// `ranlib`
+    Index,
+    /// `ld`
+    Link,
+    /// `cpp`
+    Preprocess,
+    /// `strip`
+    Strip,
 }
 
 impl Card {
@@ -36,7 +54,25 @@ impl Card {
             return Some(Card::Fail);
         }
         if function == b"gg-tool cpp\n".as_slice() {
-            return Some(Card::Cpp);
+            return Some(Card::Preprocess);
+        }
+        if function == b"gg-tool cc1\n".as_slice() {
+            return Some(Card::Compile);
+        }
+        if function == b"gg-tool as\n".as_slice() {
+            return Some(Card::Assemble);
+        }
+        if function == b"gg-tool ld\n".as_slice() {
+            return Some(Card::Link);
+        }
+        if function == b"gg-tool ar\n".as_slice() {
+            return Some(Card::Archive);
+        }
+        if function == b"gg-tool ranlib\n".as_slice() {
+            return Some(Card::Index);
+        }
+        if function == b"gg-tool strip\n".as_slice() {
+            return Some(Card::Strip);
         }
         None
     }
@@ -47,10 +83,16 @@ impl Card {
     {
         match self {
             Card::Add => add(alloc, job),
+            Card::Archive => ar(alloc, job),
+            Card::Assemble => as_(alloc, job),
             Card::Cat => cat(alloc, job),
-            Card::Cpp => cpp(alloc, job),
+            Card::Compile => cc1(alloc, job),
             Card::Fail => fail(alloc, job),
             Card::Fib => fib(alloc, job),
+            Card::Index => ranlib(alloc, job),
+            Card::Link => ld(alloc, job),
+            Card::Preprocess => cpp(alloc, job),
+            Card::Strip => strip(alloc, job),
         }
     }
 }
