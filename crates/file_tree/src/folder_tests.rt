@@ -9,7 +9,7 @@ use std::{env, fs, io, process};
 use thunk_codec::Path;
 
 /// A folder for one test.
-fn test_folder(rt: &HostRuntime, test: &str) -> io::Result<String> {
+pub fn test_folder(rt: &HostRuntime, test: &str) -> io::Result<String> {
     let parent = env::temp_dir(rt)?;
     let parent = parent.as_str();
     let number = process::id(rt.process());
@@ -17,7 +17,7 @@ fn test_folder(rt: &HostRuntime, test: &str) -> io::Result<String> {
 }
 
 /// A path.
-fn path(alloc: Global, text: &[u8]) -> Result<Path, Fail> {
+pub fn path(alloc: Global, text: &[u8]) -> Result<Path, Fail> {
     Ok(Path::read(alloc, text)?.ok_or("there is a path")?)
 }
 
@@ -28,7 +28,7 @@ fn read(rt: &HostRuntime, root: &str, text: &[u8]) -> Result<FileRead, Fail> {
 }
 
 /// Whether these bytes stand at a path.
-fn holds(rt: &HostRuntime, root: &str, text: &[u8], wanted: &[u8]) -> Result<bool, Fail> {
+pub fn holds(rt: &HostRuntime, root: &str, text: &[u8], wanted: &[u8]) -> Result<bool, Fail> {
     match read(rt, root, text)? {
         FileRead::Bytes(bytes) => Ok(bytes.as_slice() == wanted),
         _ => Ok(false),
@@ -36,19 +36,19 @@ fn holds(rt: &HostRuntime, root: &str, text: &[u8], wanted: &[u8]) -> Result<boo
 }
 
 /// Whether nothing stands at a path.
-fn is_absent(rt: &HostRuntime, root: &str, text: &[u8]) -> Result<bool, Fail> {
+pub fn is_absent(rt: &HostRuntime, root: &str, text: &[u8]) -> Result<bool, Fail> {
     Ok(matches!(read(rt, root, text)?, FileRead::Absent))
 }
 
 /// Writes a file, and says whether it was written, and how often the tree failed.
-fn write(rt: &HostRuntime, root: &str, text: &[u8], bytes: &[u8]) -> Result<(bool, u64), Fail> {
+pub fn write(rt: &HostRuntime, root: &str, text: &[u8], bytes: &[u8]) -> Result<(bool, u64), Fail> {
     let mut tree = FolderTree::new(rt.alloc(), rt, root)?;
     let written = tree.write(&path(rt.alloc(), text)?, bytes).is_ok();
     Ok((written, tree.faults()))
 }
 
 /// Removes a file.
-fn remove(rt: &HostRuntime, root: &str, text: &[u8]) -> Result<(), Fail> {
+pub fn remove(rt: &HostRuntime, root: &str, text: &[u8]) -> Result<(), Fail> {
     let mut tree = FolderTree::new(rt.alloc(), rt, root)?;
     Ok(tree.remove(&path(rt.alloc(), text)?)?)
 }

@@ -22,3 +22,7 @@ pub use wanting::wanted;
 mod folder_tests;
 #[cfg(test)]
 mod memory_tests;
+#[cfg(test)]
+mod stopping;
+#[cfg(test)]
+mod stopping_tests;

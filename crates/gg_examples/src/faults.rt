@@ -1,9 +1,11 @@
 //! A store and an output that fail.
 
 use crate::objects::{Item, Objects};
-use crate::running::{assert_gives, assert_refused, run_one, run_with};
+use crate::running::{assert_gives, assert_refused, force_one, run_one, run_with};
+use blob_store::MemKeeper;
 use gg_cli::Status;
-use object_name::name_of;
+use object_name::{Name, name_of};
+use std::alloc::Global;
 use std::test::Fail;
 
 /// How many calls the store takes in a run over `cat_of_three` that nothing is known of: the thunk, its function and its three
@@ -39,5 +41,33 @@ fn an_output_that_fails(rt: HostRuntime) -> Result<(), Fail> {
     let ran = run_with(alloc, &mut keeper, &["force", "--local"], &[item], &[1])?;
     assert_refused(&rt, &ran, Status::ByteFault, b"gg: output fault\n");
     assert_eq!(rt; keeper.puts(), [name_of(b"abc")?, thunk].as_slice());
+    // The same command over what is left gives the undisturbed answer, and writes nothing.
+    assert_gives(&rt, alloc, &mut keeper, thunk, b"abc")?;
+    assert_eq!(rt; keeper.puts().len(), 2);
+    Ok(())
+}
+
+/// A store of `cat_of_three` of which the listed calls fail, and the thunk's name.
+fn failing_store(alloc: Global, failing: &[u64]) -> Result<(MemKeeper, Name), Fail> {
+    let mut objects = Objects::new(alloc);
+    let thunk = objects.cat_of_three()?;
+    Ok((objects.keeper(failing)?, thunk))
+}
+
+#[test]
+fn two_failed_calls_in_a_row_change_no_answer(rt: HostRuntime) -> Result<(), Fail> {
+    let (mut keeper, thunk) = failing_store(rt.alloc(), &[1, 2])?;
+    assert_gives(&rt, rt.alloc(), &mut keeper, thunk, b"abc")?;
+    assert_eq!(rt; keeper.calls(), CALLS + 2);
+    Ok(())
+}
+
+#[test]
+fn three_failed_calls_in_a_row_are_a_fault(rt: HostRuntime) -> Result<(), Fail> {
+    let (mut keeper, thunk) = failing_store(rt.alloc(), &[1, 2, 3])?;
+    let ran = force_one(rt.alloc(), &mut keeper, &Item::Out(thunk, 0))?;
+    assert_refused(&rt, &ran, Status::StoreFault, b"gg: store fault\n");
+    assert_eq!(rt; keeper.calls(), 3);
+    assert!(rt; keeper.puts().is_empty());
     Ok(())
 }

@@ -10,7 +10,13 @@ mod command_lines;
 #[cfg(test)]
 mod faults;
 #[cfg(test)]
+mod file_faults;
+#[cfg(test)]
+mod files;
+#[cfg(test)]
 mod objects;
+#[cfg(test)]
+mod placeholders;
 #[cfg(test)]
 mod running;
 #[cfg(test)]

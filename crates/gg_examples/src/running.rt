@@ -18,7 +18,7 @@ pub struct Ran {
 }
 
 /// Adds a word.
-fn add_word(alloc: Global, words: &mut Vec<String>, word: &[u8]) -> Result<(), Fail> {
+pub fn add_word(alloc: Global, words: &mut Vec<String>, word: &[u8]) -> Result<(), Fail> {
     let word = std::str::from_utf8(word)?;
     words.push(String::from_str(alloc, word)?)?;
     Ok(())
@@ -31,6 +31,24 @@ fn add_item(alloc: Global, words: &mut Vec<String>, item: &Item) -> Result<(), F
     add_word(alloc, words, text.as_slice())
 }
 
+/// Runs a command line over a store and files, with an output of which the listed writes fail.
+pub fn run_over(
+    alloc: Global,
+    keeper: &mut MemKeeper,
+    tree: &mut MemTree,
+    words: &[String],
+    failing: &[u64],
+) -> Result<Ran, Fail> {
+    let mut out = MemSink::new(alloc, Many(failing.to_vec(alloc)?))?;
+    let mut err = MemSink::new(alloc, Many::new(alloc))?;
+    let status = gg_top(alloc, words, keeper, tree, &mut out, &mut err);
+    Ok(Ran {
+        status,
+        out: out.into_content(),
+        err: err.into_content(),
+    })
+}
+
 /// Runs a command line where there are no files, with an output of which the listed writes fail.
 fn run_words(
     alloc: Global,
@@ -38,15 +56,8 @@ fn run_words(
     words: &[String],
     failing: &[u64],
 ) -> Result<Ran, Fail> {
-    let mut out = MemSink::new(alloc, Many(failing.to_vec(alloc)?))?;
-    let mut err = MemSink::new(alloc, Many::new(alloc))?;
     let mut tree = MemTree::new(alloc, Many::new(alloc), Many::new(alloc))?;
-    let status = gg_top(alloc, words, keeper, &mut tree, &mut out, &mut err);
-    Ok(Ran {
-        status,
-        out: out.into_content(),
-        err: err.into_content(),
-    })
+    run_over(alloc, keeper, &mut tree, words, failing)
 }
 
 /// Runs the command line of some words and items, with an output of which the listed writes fail.

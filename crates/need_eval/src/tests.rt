@@ -5,7 +5,7 @@ ghost use Rattle.std.specs.List.{AllByRecursion};
 ghost use Rattle.thunk_codec.specs.Reference.{IsRef};
 ghost use Rattle.thunk_codec.specs.declared.job.Outcome.TheVariants.{Failed};
 
-use crate::{EvalFault, Refusal, Walked, Walker, evaluate};
+use crate::{EvalFault, Prepared, Refusal, Walked, Walker, evaluate};
 use blob_store::MemKeeper;
 use object_name::{Bytes, Many, Name, Trouble, TryCopy, name_of};
 use std::alloc::Global;
@@ -197,5 +197,30 @@ fn a_failed_function_is_refused(rt: HostRuntime) -> Result<(), Fail> {
     let name = name_of(text.as_slice())?;
     let failed = refused(alloc, &[b"f", b"abc", text.as_slice()], &name, b"#0", 1)?;
     assert_eq!(rt; failed, Some(Refusal::FunctionFailed { name, status: 3 }));
+    Ok(())
+}
+
+/// A job with one argument and nothing else, and a text.
+fn prepared_with(alloc: Global, text: &[u8], function: &[u8]) -> Result<Prepared, Fail> {
+    let mut args = Many::new(alloc);
+    args.push(Bytes::from_slice(alloc, b"xyz")?)?;
+    let job = Job {
+        function: Bytes::from_slice(alloc, function)?,
+        args,
+        envs: Many::new(alloc),
+        inputs: Many::new(alloc),
+        outputs: Many::new(alloc),
+    };
+    let text = Bytes::from_slice(alloc, text)?;
+    Ok(Prepared { text, job })
+}
+
+#[test]
+fn a_prepared_job_is_copied(rt: HostRuntime) -> Result<(), Fail> {
+    let prepared = prepared_with(rt.alloc(), b"text", b"f")?;
+    let copy = prepared.copy(rt.alloc())?;
+    assert_eq!(rt; copy.text.as_slice(), b"text".as_slice());
+    assert_eq!(rt; copy.job.function.as_slice(), b"f".as_slice());
+    assert_eq!(rt; copy.job.args.len(), 1);
     Ok(())
 }
