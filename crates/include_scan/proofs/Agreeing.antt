@@ -9,7 +9,8 @@ use Rattle.tool_text.specs.declared.failure.Failure.{Failure}
 use Rattle.tool_text.specs.Directive.{Target, directive_of}
 use Rattle.tool_text.specs.Expand.{Macros}
 use Rattle.tool_text.specs.Including.{Files, candidates, first_there}
-use Rattle.tool_text.specs.Preprocess.{State, Group, Taken, taken, followed, closed, ran, entered, going_into, processed, preprocessed}
+use Rattle.tool_text.specs.declared.groups.Group.{Group}
+use Rattle.tool_text.specs.Preprocess.{State, Taken, taken, followed, closed, ran, found_or_not, going_into, processed, preprocessed}
 use Rattle.tool_text.specs.Trying.{◌>>=◌}
 use Rattle.include_scan.specs.Scanned.{IsClosed, asked_by, include_targets, bytes_at, only}
 use Rattle.include_scan.proofs.Targets.{IsAmong, GoesInto, taken_goes}
@@ -94,7 +95,7 @@ module _ (files : Files) (folders : List (List ℕ)) (source : List ℕ) (is_in 
   -- a file of the set is entered in the same way
   entered_agree : (enter_some enter_all : List ℕ → State → Result State Failure) → ((path : List ℕ) → IsTrue (is_in path) → (state : State) → enter_some path state ≡ enter_all path state)
       → (found : Option (List ℕ)) → ((path : List ℕ) → found ≡ Some path → IsTrue (is_in path)) → (state : State)
-      → entered enter_some found state ≡ entered enter_all found state
+      → (found_or_not found >>= λ path. enter_some path state) ≡ (found_or_not found >>= λ path. enter_all path state)
   entered_agree enter_some enter_all agree None inside state = refl
   entered_agree enter_some enter_all agree (Some path) inside state = agree path (inside path refl) state
 
@@ -104,8 +105,8 @@ module _ (files : Files) (folders : List (List ℕ)) (source : List ℕ) (is_in 
       (going_into (λ found now. processed files folders levels found now) files folders path)
   going_agree levels below path inside target among state =
       let reached : (found : List ℕ) → first_there files (candidates folders path target) ≡ Some found → IsTrue (is_in found) = is_closed.includes_in path inside target among in
-      ap (λ found. entered (λ found now. processed (only is_in files) folders levels found now) found state) (first_only files is_in (candidates folders path target) reached)
-          ∙ entered_agree _ _ below (first_there files (candidates folders path target)) reached state
+      ap (λ found. found_or_not found >>= λ path. processed (only is_in files) folders levels path state) (first_only files is_in (candidates folders path target) reached)
+          ∙ entered_agree (λ path now. processed (only is_in files) folders levels path now) (λ path now. processed files folders levels path now) below (first_there files (candidates folders path target)) reached state
 
   -- a file of the set gives the same
   processed_agree : (levels : ℕ) (path : List ℕ) → IsTrue (is_in path) → (state : State)

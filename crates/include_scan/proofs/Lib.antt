@@ -1,2 +1,5 @@
 pub mod Targets
 pub mod Agreeing
+pub mod Onward
+pub mod Reached
+pub mod Sufficing

@@ -4,7 +4,8 @@ use Rattle.std.specs.Prelude.{Contains, if◌then◌else◌}
 use Rattle.std.specs.Option.{is_some}
 use Rattle.tool_text.specs.declared.failure.Failure.{Failure}
 use Rattle.tool_text.specs.Directive.{Directive, Text, Empty, Include, Define, Undef, Ifdef, Ifndef, If, Else, Endif, Unknown, Target, directive_of}
-use Rattle.tool_text.specs.Preprocess.{State, Group, Taken, counted, written, is_active, turned, ended, going_on, acted, skipped, stepped, taken}
+use Rattle.tool_text.specs.declared.groups.Group.{Group}
+use Rattle.tool_text.specs.Preprocess.{State, Taken, counted, written, is_active, turned, ended, going_on, acted, skipped, stepped, taken}
 use Rattle.tool_text.specs.Trying.{◌>>=◌}
 use Rattle.include_scan.specs.Scanned.{asked_by}
 

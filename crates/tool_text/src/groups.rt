@@ -11,7 +11,7 @@ use std::alloc::{AllocError, Global};
 
 /// A group of lines.
 #[derive(Clone, Copy, Debug, Drop)]
-pub(crate) struct Group {
+pub struct Group {
     /// What stands around it is active.
     pub around: bool,
     /// It is active itself.
@@ -22,7 +22,7 @@ pub(crate) struct Group {
 
 /// The open groups of a file, the innermost last.
 #[derive(Drop)]
-pub(crate) struct Groups {
+pub struct Groups {
     open: Vec<Group>,
 }
 

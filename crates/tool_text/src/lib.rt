@@ -31,6 +31,7 @@ pub use directive::Target;
 pub use fail_tool::fail;
 pub use failure::Failure;
 pub use fib_tool::fib;
+pub use groups::Group;
 pub use include_lines::{IncludeLine, include_line};
 pub use including::candidates;
 

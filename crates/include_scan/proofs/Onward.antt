@@ -1,0 +1,132 @@
+-- Files that are met: behind those before, few, all there, and in each closed set.
+use Rattle.std.proofs.Common.{◌≡◌, ◌≤◌, ◌<◌, ◌+◌, ℕ, List, [], ◌∷◌, ◌++◌, Bool, true, false, ◌||◌, Option, Some, None, Result, Ok, Err, IsTrue, length, refl, sym, ap, subst, ◌∙◌, arith, append_assoc, inl, inr, append-nil, ltb-true}
+use Rattle.std.specs.Prelude.{◌⊎◌, nat_lt, bytes_eq, if◌then◌else◌}
+use Rattle.std.specs.List.{list_any}
+use Rattle.std.specs.Option.{is_some}
+use Rattle.std.proofs.lemmas.Bool.{or_cases, false≢true}
+use Rattle.std.proofs.lemmas.List.{length_push}
+use Rattle.std.proofs.lemmas.List.Folds.{list_any-append}
+use Rattle.std.proofs.lemmas.Slice.Eq.{bytes_eq-Decides}
+use Rattle.object_name.specs.Name.{max_size}
+use Rattle.thunk_codec.proofs.Paths.{bytes_eq-self}
+use Rattle.thunk_codec.specs.Placeholder.{placeholder_of}
+use Rattle.file_tree.specs.declared.refusal.FileRefusal.TheVariants as refusals
+use Rattle.tool_text.specs.Including.{Files}
+use Rattle.tool_text.specs.Trying.{◌>>=◌}
+use Rattle.include_scan.specs.declared.fault.ScanFault.TheVariants.{TooMany}
+use Rattle.include_scan.specs.Scanned.{IsClosed, is_among}
+use Rattle.include_scan.specs.Scanning.{Meeting, max_files, refusal_of, unless_refused, met_file}
+
+-- what holds of the files that were met, where there is no refusal
+abbrev pub HoldsOk : (List (List ℕ) → Type 0) → Meeting → Type 0
+HoldsOk P (Ok now) = P now
+HoldsOk P (Err fault) = Unit {0}
+
+pub holds_map : {P Q : List (List ℕ) → Type 0} → (meeting : Meeting) → ((now : List (List ℕ)) → P now → Q now) → HoldsOk P meeting → HoldsOk Q meeting
+holds_map (Ok now) f h = f now h
+holds_map (Err fault) f h = tt
+
+pub bind_holds : {P : List (List ℕ) → Type 0} (Q : List (List ℕ) → Type 0) → (meeting : Meeting) (next : List (List ℕ) → Meeting) → HoldsOk P meeting
+    → ((now : List (List ℕ)) → P now → HoldsOk Q (next now)) → HoldsOk Q (meeting >>= next)
+bind_holds Q (Ok now) next h f = f now h
+bind_holds Q (Err fault) next h f = tt
+
+-- by cases on a test
+pub on_bool : (test : Bool) (P : Bool → Type 0) → (test ≡ true → P true) → (test ≡ false → P false) → P test
+on_bool true P if_true _ = if_true refl
+on_bool false P _ if_false = if_false refl
+
+pub or_first : (a b : Bool) → a ≡ true → (a || b) ≡ true
+or_first true b is = refl
+or_first false b is = absurd (false≢true is)
+
+pub or_second : (a b : Bool) → b ≡ true → (a || b) ≡ true
+or_second true b is = refl
+or_second false b is = is
+
+pub among_left : (paths more : List (List ℕ)) (path : List ℕ) → IsTrue (is_among paths path) → IsTrue (is_among (paths ++ more) path)
+among_left paths more path h = list_any-append (bytes_eq path) paths more ∙ or_first _ _ h
+
+pub among_cases : (paths more : List (List ℕ)) (path : List ℕ) → IsTrue (is_among (paths ++ more) path) → IsTrue (is_among paths path) ⊎ IsTrue (is_among more path)
+among_cases paths more path h = or_cases _ _ (sym (list_any-append (bytes_eq path) paths more) ∙ h)
+
+pub among_one : (other path : List ℕ) → IsTrue (is_among (other ∷ []) path) → path ≡ other
+among_one other path h = by_parts (or_cases (bytes_eq path other) false h) where
+  by_parts : (bytes_eq path other ≡ true) ⊎ (false ≡ true) → path ≡ other
+  by_parts (inl is) = (bytes_eq-Decides path other).0 is
+  by_parts (inr is) = absurd (false≢true is)
+
+pub among_last : (paths : List (List ℕ)) (path : List ℕ) → IsTrue (is_among (paths ++ path ∷ []) path)
+among_last paths path = list_any-append (bytes_eq path) paths (path ∷ []) ∙ or_second _ _ (or_first _ _ (bytes_eq-self path))
+
+module _ (files : Files) (folders : List (List ℕ)) (source : List ℕ) where
+  -- some paths are all in a set
+  abbrev pub AllIn : (List ℕ → Bool) → List (List ℕ) → Type 0
+  AllIn set paths = (path : List ℕ) → IsTrue (is_among paths path) → IsTrue (set path)
+
+  -- whether a file is there
+  abbrev pub exists : List ℕ → Bool
+  exists path = is_some (files path)
+
+  -- more was met
+  pub record Onward (met now : List (List ℕ)) : Type 0 where
+    pub more : List (List ℕ)
+    pub is : now ≡ met ++ more
+    pub few : length met ≤ 4096 → length now ≤ 4096
+    pub there : AllIn exists met → AllIn exists now
+    pub least : (other : List ℕ → Bool) → IsClosed files folders source other → AllIn other met → AllIn other now
+
+  pub nothing_met : (met : List (List ℕ)) → Onward met met
+  nothing_met met = record { more = []; is = sym (append-nil met); few = λ few. few; there = λ all. all; least = λ other closed all. all }
+
+  pub later_met : (met now later : List (List ℕ)) → Onward met now → Onward now later → Onward met later
+  later_met met now later first second = record {
+    more = first.more ++ second.more;
+    is = second.is ∙ (ap (λ paths. paths ++ second.more) first.is ∙ append_assoc met first.more second.more);
+    few = λ few. second.few (first.few few);
+    there = λ all. second.there (first.there all);
+    least = λ other closed all. second.least other closed (first.least other closed all);
+  }
+
+  pub still_met : (met now : List (List ℕ)) → Onward met now → (path : List ℕ) → IsTrue (is_among met path) → IsTrue (is_among now path)
+  still_met met now onward path h = subst (λ paths. IsTrue (is_among paths path)) (sym onward.is) (among_left met onward.more path h)
+
+  -- a path that is in each closed set that has the files so far
+  abbrev pub IsNeeded : List (List ℕ) → List ℕ → Type 0
+  IsNeeded met path = (other : List ℕ → Bool) → IsClosed files folders source other → AllIn other met → IsTrue (other path)
+
+  all_with : (set : List ℕ → Bool) (met : List (List ℕ)) (path : List ℕ) → AllIn set met → IsTrue (set path) → AllIn set (met ++ path ∷ [])
+  all_with set met path all h other among = by_parts (among_cases met (path ∷ []) other among) where
+    by_parts : IsTrue (is_among met other) ⊎ IsTrue (is_among (path ∷ []) other) → IsTrue (set other)
+    by_parts (inl before) = all other before
+    by_parts (inr last) = subst (λ path. IsTrue (set path)) (sym (among_one path other last)) h
+
+  one_met : (met : List (List ℕ)) (path : List ℕ) → length met < 4096 → IsTrue (exists path) → IsNeeded met path → Onward met (met ++ path ∷ [])
+  one_met met path room there needed = record {
+    more = path ∷ [];
+    is = refl;
+    few = λ _. let long = length_push met path in omega (arith, long, room);
+    there = λ all. all_with exists met path all there;
+    least = λ other closed all. all_with other met path all (needed other closed all);
+  }
+
+  refused_or : (P : List (List ℕ) → Type 0) (path : List ℕ) (file : Option (List ℕ)) (next : List (List ℕ)) → (is_some file ≡ true → P next)
+      → HoldsOk P (unless_refused (refusal_of path file) next)
+  refused_or P path None next h = tt
+  refused_or P path (Some bytes) next h =
+      on_bool (nat_lt max_size (length bytes)) (λ test. HoldsOk P (unless_refused (if test then Some (refusals.TooLong path) else (if is_some (placeholder_of bytes) then Some (refusals.Generated path) else None)) next)) (λ _. tt)
+          (λ _. on_bool (is_some (placeholder_of bytes)) (λ test. HoldsOk P (unless_refused (if test then Some (refusals.Generated path) else None) next)) (λ _. tt) (λ _. h refl))
+
+  -- a file that is met is among them
+  abbrev pub MeetsFile : List ℕ → List (List ℕ) → List (List ℕ) → Type 0
+  MeetsFile path met now = Onward met now × IsTrue (is_among now path)
+
+  pub met_file_goes : (path : List ℕ) (met : List (List ℕ)) → IsNeeded met path → HoldsOk (MeetsFile path met) (met_file files path met)
+  unfolding met_file
+  met_file_goes path met needed =
+      let fresh : Meeting = unless_refused (refusal_of path (files path)) (met ++ path ∷ []) in
+      on_bool (is_among met path) (λ test. HoldsOk (MeetsFile path met) (if test then Ok met else (if nat_lt (length met) max_files then fresh else Err TooMany)))
+          (λ among. (nothing_met met, among))
+          (λ _. on_bool (nat_lt (length met) max_files) (λ test. HoldsOk (MeetsFile path met) (if test then fresh else Err TooMany))
+              (λ room. refused_or (MeetsFile path met) path (files path) (met ++ path ∷ []) (λ there. (one_met met path (ltb-true (length met) max_files room) there needed, among_last met path)))
+              (λ _. tt))
