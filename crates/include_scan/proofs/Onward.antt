@@ -115,7 +115,7 @@ module _ (files : Files) (folders : List (List ℕ)) (source : List ℕ) where
   refused_or P path None next h = tt
   refused_or P path (Some bytes) next h =
       on_bool (nat_lt max_size (length bytes)) (λ test. HoldsOk P (unless_refused (if test then Some (refusals.TooLong path) else (if is_some (placeholder_of bytes) then Some (refusals.Generated path) else None)) next)) (λ _. tt)
-          (λ _. on_bool (is_some (placeholder_of bytes)) (λ test. HoldsOk P (unless_refused (if test then Some (refusals.Generated path) else None) next)) (λ _. tt) (λ _. h refl))
+      (λ _. on_bool (is_some (placeholder_of bytes)) (λ test. HoldsOk P (unless_refused (if test then Some (refusals.Generated path) else None) next)) (λ _. tt) (λ _. h refl))
 
   -- a file that is met is among them
   abbrev pub MeetsFile : List ℕ → List (List ℕ) → List (List ℕ) → Type 0
@@ -126,7 +126,7 @@ module _ (files : Files) (folders : List (List ℕ)) (source : List ℕ) where
   met_file_goes path met needed =
       let fresh : Meeting = unless_refused (refusal_of path (files path)) (met ++ path ∷ []) in
       on_bool (is_among met path) (λ test. HoldsOk (MeetsFile path met) (if test then Ok met else (if nat_lt (length met) max_files then fresh else Err TooMany)))
-          (λ among. (nothing_met met, among))
-          (λ _. on_bool (nat_lt (length met) max_files) (λ test. HoldsOk (MeetsFile path met) (if test then fresh else Err TooMany))
-              (λ room. refused_or (MeetsFile path met) path (files path) (met ++ path ∷ []) (λ there. (one_met met path (ltb-true (length met) max_files room) there needed, among_last met path)))
-              (λ _. tt))
+      (λ among. (nothing_met met, among))
+      (λ _. on_bool (nat_lt (length met) max_files) (λ test. HoldsOk (MeetsFile path met) (if test then fresh else Err TooMany))
+      (λ room. refused_or (MeetsFile path met) path (files path) (met ++ path ∷ []) (λ there. (one_met met path (ltb-true (length met) max_files room) there needed, among_last met path)))
+      (λ _. tt))

@@ -37,10 +37,10 @@ module _ (files : Files) (folders : List (List ℕ)) (source : List ℕ) where
   inputs_only [] all path = refl
   inputs_only (first ∷ paths) all path =
       on_bool (bytes_eq first path) (λ test. (if test then Some (bytes_at files first) else input_at path (inputs_of files paths)) ≡ only (is_among (first ∷ paths)) files path)
-          (λ is. subst (λ path. Some (bytes_at files first) ≡ only (is_among (first ∷ paths)) files path) ((bytes_eq-Decides first path).0 is)
-              (head_only first paths (all first (head_among first paths))))
-          (λ is_not. inputs_only paths (λ other among. all other (or_second _ _ among)) path
-              ∙ sym (ap (λ test. if test || is_among paths path then files path else None) (differ first path is_not)))
+      (λ is. subst (λ path. Some (bytes_at files first) ≡ only (is_among (first ∷ paths)) files path) ((bytes_eq-Decides first path).0 is)
+      (head_only first paths (all first (head_among first paths))))
+      (λ is_not. inputs_only paths (λ other among. all other (or_second _ _ among)) path
+      ∙ sym (ap (λ test. if test || is_among paths path then files path else None) (differ first path is_not)))
 
   pub scanned_suffice : (paths : List (List ℕ)) → IsScanned files folders source (is_among paths) → AllIn files folders source (exists files folders source) paths → Suffices files folders source paths
   scanned_suffice paths scanned all macros =
