@@ -7,35 +7,20 @@ here=$(cd "$(dirname "$0")/.." && pwd)
 mkdir -p "$folder/.gg/objects"
 cd "$folder"
 
-bytes_of_hex() {
-    rest=$1
-    while [ -n "$rest" ]; do
-        others=${rest#??}
-        printf "\\$(printf '%03o' "0x${rest%"$others"}")"
-        rest=$others
-    done
-}
-
-keep() {
-    digest=$(sha256sum "$2" | cut -c1-64)
-    spelled=$(bytes_of_hex "$digest" | base64 | tr '+/' '-_' | tr -d '=\n')
-    name=$(printf '%s%s%08x' "$1" "$spelled" "$(wc -c <"$2")")
-    cp "$2" ".gg/objects/$name"
-    printf '%s' "$name"
-}
+. "$here/examples/store.sh"
 
 printf 'gg-tool cat\n' >card
 for path in a b c; do
     head -c 5242880 /dev/urandom >"$path"
 done
 {
-    printf 'gg-thunk 1\nf %s\n' "$(keep V card)"
+    printf 'gg-thunk 1\nf %s\n' "$(keep card)"
     for path in a b c; do
-        printf 'i 1:%s %s\n' "$path" "$(keep V "$path")"
+        printf 'i 1:%s %s\n' "$path" "$(keep "$path")"
     done
     printf 'o 3:out\nend\n'
 } >thunk
-item="$(keep T thunk)#0"
+item="$(keep thunk)#0"
 cat a b c >out
 
 # Nanoseconds that a command takes, the least of five runs.
