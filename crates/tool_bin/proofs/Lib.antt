@@ -7,3 +7,4 @@ pub mod ReadsBack
 pub mod Whenever
 pub mod Sound
 pub mod Strips
+pub mod Wholes

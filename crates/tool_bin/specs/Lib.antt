@@ -13,3 +13,4 @@ pub mod Faults
 pub mod Linking
 pub mod Link
 pub mod Well
+pub mod Whole

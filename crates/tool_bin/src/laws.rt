@@ -1,11 +1,15 @@
 //! Laws of objects that no single call shows.
 
-ghost use Rattle.std.specs.Prelude.{◌≡◌, ◌<◌, ◌^◌, ℕ, List, Some, length, true};
+ghost use Rattle.std.specs.Prelude.{◌≡◌, ◌<◌, ◌^◌, ℕ, List, Some, Ok, length, true};
 ghost use Rattle.tool_bin.specs.declared.object.Object.{Object};
 ghost use Rattle.tool_bin.specs.Assemble.{assembled};
 ghost use Rattle.tool_bin.specs.Object.{object_head, executable_head, object_text, keeps_rules};
 ghost use Rattle.tool_bin.specs.Reading.{object_of};
 ghost use Rattle.tool_bin.specs.Strip.{stripped};
+ghost use Rattle.thunk_codec.specs.declared.job.Job.{Job};
+ghost use Rattle.tool_bin.specs.declared.linking.Linking.{Linking};
+ghost use Rattle.tool_bin.specs.Link.{linked};
+ghost use Rattle.tool_bin.specs.Whole.{IsWhole};
 ghost use Rattle.tool_bin.specs.Well.{IsWellObject};
 
 /// A text that an object is read from is the text of that object. So no object has two texts, and no two have one.
@@ -29,4 +33,9 @@ pub fn assembled_reads_back()
 /// What is stripped twice is as what is stripped once.
 pub fn stripped_once()
     ensures { (source : List ℕ) (text : List ℕ) → stripped source ≡ Some text → length text < 2 ^ 64 → stripped text ≡ Some text }
+{}
+
+/// A program that is linked has each of its symbols once, `main`, and all that is called.
+pub fn programs_are_whole()
+    ensures { (job : Job) (program : Linking) → linked job ≡ Ok program → IsWhole program.symbols }
 {}
