@@ -15,3 +15,4 @@ pub mod Whenever
 pub mod Sound
 pub mod Strips
 pub mod Fitting
+pub mod Wholes

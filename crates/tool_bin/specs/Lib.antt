@@ -16,3 +16,4 @@ pub mod Linking
 pub mod Link
 pub mod Well
 pub mod Form
+pub mod Whole

@@ -1,16 +1,18 @@
 //! Laws of the cards and of objects that no single call shows.
 
-ghost use Rattle.std.specs.Prelude.{◌≡◌, ◌<◌, ◌^◌, ℕ, List, Some, length, true};
 ghost use Rattle.thunk_codec.specs.declared.job.Job.{Job};
+ghost use Rattle.std.specs.Prelude.{◌≡◌, ◌<◌, ◌^◌, ℕ, List, Some, Ok, length, true};
 ghost use Rattle.tool_bin.specs.declared.object.Object.{Object};
 ghost use Rattle.tool_bin.specs.Ar.{ar_outcome, ranlib_outcome};
 ghost use Rattle.tool_bin.specs.Assemble.{as_outcome, assembled};
 ghost use Rattle.tool_bin.specs.Compile.{cc1_outcome};
 ghost use Rattle.tool_bin.specs.Form.{HasForm};
-ghost use Rattle.tool_bin.specs.Link.{ld_outcome};
 ghost use Rattle.tool_bin.specs.Object.{object_head, executable_head, object_text, keeps_rules};
 ghost use Rattle.tool_bin.specs.Reading.{object_of};
 ghost use Rattle.tool_bin.specs.Strip.{strip_outcome, stripped};
+ghost use Rattle.tool_bin.specs.declared.linking.Linking.{Linking};
+ghost use Rattle.tool_bin.specs.Link.{ld_outcome, linked};
+ghost use Rattle.tool_bin.specs.Whole.{IsWhole};
 ghost use Rattle.tool_bin.specs.Well.{IsWellObject};
 
 /// What a card gives is of the form that its job wants.
@@ -44,4 +46,9 @@ pub fn assembled_reads_back()
 /// What is stripped twice is as what is stripped once.
 pub fn stripped_once()
     ensures { (source : List ℕ) (text : List ℕ) → stripped source ≡ Some text → length text < 2 ^ 64 → stripped text ≡ Some text }
+{}
+
+/// A program that is linked has each of its symbols once, `main`, and all that is called.
+pub fn programs_are_whole()
+    ensures { (job : Job) (program : Linking) → linked job ≡ Ok program → IsWhole program.symbols }
 {}
