@@ -3,3 +3,4 @@ pub mod Agreeing
 pub mod Onward
 pub mod Reached
 pub mod Sufficing
+pub mod Standing
