@@ -4,3 +4,7 @@ pub mod Onward
 pub mod Reached
 pub mod Sufficing
 pub mod Standing
+pub mod Queues
+pub mod Lines
+pub mod Gathering
+pub mod Sorted

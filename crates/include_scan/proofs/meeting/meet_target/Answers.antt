@@ -1,15 +1,13 @@
-use Rattle.std.proofs.Common.{rules, ◌≡◌, ◌≤◌, ℕ, length, ◌+◌, ◌-◌, ◌*◌, ◌<◌, ◌/◌, ◌%◌, Bool, true, false, nat_eq, nat_lt, List, [], ◌∷◌, ◌++◌, slice_index_or, slice_set, bit_and, bit_or, Fits, w8, w32, w64, Bor, MutBor}
-use Rattle.object_name.specs.Name.{max_size}
-use Rattle.text_lines.specs.Lines.{lines_of}
-use Rattle.tool_text.specs.Directive.{directive_of}
-use Rattle.tool_text.specs.IncludeLine.{include_of}
+use Rattle.std.proofs.Common.{◌≡◌, sym, subst, ap, ℕ}
 use Rattle.tool_text.specs.Including as places
 use Rattle.tool_text.specs.Including.{first_there}
 use Rattle.tool_text.specs.Seen.{target_seen}
-use Rattle.include_scan.specs.Scanning.{after_lines, met_found}
-use Rattle.include_scan.specs.Queueing.{Asks, Meets, StepCause, Waits}
+use Rattle.include_scan.specs.Queueing.{IsFound, Waits}
 use Rattle.include_scan.proofs.meeting.meet_target.Goals as goal
 
--- src/meeting.rt:45:1
 pub returns-clause-exact : goal.returns-clause-exact
-returns-clause-exact g c = ?
+returns-clause-exact g c tells place waits =
+    c.meet.ensures.exact (g.T.Tree.files c.args.tree.now) place
+        (first_there (g.T.Tree.files c.args.tree.now) (places.candidates c.args.folders.now c.args.path.now (target_seen c.args.target))) waits
+        (subst (λ all. IsFound (g.T.Tree.files c.args.tree.now) c.args.queue.now.met.keys (first_there (g.T.Tree.files c.args.tree.now) all) c.in_ok-place.place) ?
+            (c.in_ok-place.ensures.exact tells waits.fine))

@@ -1,11 +1,7 @@
-use Rattle.std.proofs.Common.{rules, ◌≡◌, ◌≢◌, ℕ, List, [], Option, false, IfErr, ◌+◌, ◌-◌, ◌*◌, ◌<◌, ◌≤◌, length, ◌/◌, ◌%◌, Bool, true, nat_eq, nat_lt, ◌∷◌, ◌++◌, slice_index_or, slice_set, bit_and, bit_or, Fits, w8, w32, w64, Bor, MutBor}
-use Rattle.file_tree.specs.Files.{file_read}
-use Rattle.tool_text.specs.Including.{Files}
-use Rattle.include_scan.specs.Scanned.{is_among}
-use Rattle.include_scan.specs.Scanning.{met_file, met_found}
-use Rattle.include_scan.specs.Queueing.{IsFound, IsNext, Judges, Meets, Waits}
+use Rattle.std.proofs.Common.{refl}
+use Rattle.include_scan.proofs.Queues.{is_next}
 use Rattle.include_scan.proofs.queue.Queue.next.Goals as goal
 
--- src/queue.rt:75:5
 pub returns-clause-next : goal.returns-clause-next
-returns-clause-next c = ?
+returns-clause-next c files place waits =
+    is_next files place c.args.self.now record {met = c.args.self.now.met; waiting = c.pop_front.new.self} waits c.pop_front.result c.pop_front.ensures.items c.pop_front.ensures.rest refl
