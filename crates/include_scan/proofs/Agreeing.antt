@@ -1,5 +1,5 @@
 -- Preprocessing with the files of a closed set alone agrees with preprocessing with all files.
-use Rattle.std.proofs.Common.{◌≡◌, ℕ, suc, zero, List, [], ◌∷◌, ◌++◌, Bool, true, false, Option, Some, None, Result, Ok, Err, IsTrue, refl, sym, ap, ◌∙◌}
+use Rattle.std.proofs.Common.{◌≡◌, ℕ, suc, zero, List, [], ◌∷◌, Bool, true, false, Option, Some, None, Result, Ok, Err, IsTrue, refl, sym, ap, ◌∙◌}
 use Rattle.std.specs.Prelude.{Contains, unwrap_or, if◌then◌else◌}
 use Rattle.std.specs.List.{flat_map}
 use Rattle.std.specs.Option.{is_some}
@@ -10,7 +10,7 @@ use Rattle.tool_text.specs.Directive.{Target, directive_of}
 use Rattle.tool_text.specs.Expand.{Macros}
 use Rattle.tool_text.specs.Including.{Files, candidates, first_there}
 use Rattle.tool_text.specs.declared.groups.Group.{Group}
-use Rattle.tool_text.specs.Preprocess.{State, Taken, taken, followed, closed, ran, found_or_not, going_into, processed, preprocessed}
+use Rattle.tool_text.specs.Preprocess.{State, Taken, taken, followed, ran, found_or_not, going_into, processed, preprocessed}
 use Rattle.tool_text.specs.Trying.{◌>>=◌}
 use Rattle.include_scan.specs.Scanned.{IsClosed, asked_by, include_targets, bytes_at, only}
 use Rattle.include_scan.proofs.Targets.{IsAmong, GoesInto, taken_goes}
@@ -34,11 +34,11 @@ module _ (f g : Target → State → Result State Failure) where
       → ((groups : List Group) (state : State) → ran f lines groups state ≡ ran g lines groups state)
       → (now : Result Taken Failure) → GoesInto (asked_by (directive_of line)) now
       → (now >>= λ now. followed f now.target now.state >>= λ next. ran f lines now.groups next)
-          ≡ (now >>= λ now. followed g now.target now.state >>= λ next. ran g lines now.groups next)
+      ≡ (now >>= λ now. followed g now.target now.state >>= λ next. ran g lines now.groups next)
   line_agree line lines agree rests (Err failure) goes = refl
   line_agree line lines agree rests (Ok now) goes =
       bound_agree (λ next. ran f lines now.groups next) (λ next. ran g lines now.groups next) (rests now.groups)
-          _ _ (followed_agree (asked_by (directive_of line)) (λ target among state. agree target (Contains-append_left _ (flat_map (λ line. asked_by (directive_of line)) lines) target among) state) now.target goes now.state)
+      _ _ (followed_agree (asked_by (directive_of line)) (λ target among state. agree target (Contains-append_left _ (flat_map (λ line. asked_by (directive_of line)) lines) target among) state) now.target goes now.state)
 
   -- two ways of following that agree on what the lines ask for give the same
   pub ran_agree : (lines : List (List ℕ)) → AgreeOn (flat_map (λ line. asked_by (directive_of line)) lines) f g → (groups : List Group) (state : State)
@@ -74,7 +74,7 @@ module _ (files : Files) (is_in : List ℕ → Bool) where
   first_absent path places inside others absent =
       let all : first_there files (Some path ∷ places) ≡ first_there files places = ap (λ file. if is_some file then Some path else first_there files places) absent in
       let some : first_there (only is_in files) (Some path ∷ places) ≡ first_there (only is_in files) places =
-          ap (λ file. if is_some file then Some path else first_there (only is_in files) places) (only_absent path absent) in
+      ap (λ file. if is_some file then Some path else first_there (only is_in files) places) (only_absent path absent) in
       some ∙ (others (λ found is. inside found (all ∙ is)) ∙ sym all)
 
   first_present : (path : List ℕ) (places : List (Option (List ℕ))) → IsInside (Some path ∷ places)
@@ -82,7 +82,7 @@ module _ (files : Files) (is_in : List ℕ → Bool) where
   first_present path places inside bytes present =
       let all : first_there files (Some path ∷ places) ≡ Some path = ap (λ file. if is_some file then Some path else first_there files places) present in
       let some : first_there (only is_in files) (Some path ∷ places) ≡ Some path =
-          ap (λ file. if is_some file then Some path else first_there (only is_in files) places) (only_in path (inside path all) ∙ present) in
+      ap (λ file. if is_some file then Some path else first_there (only is_in files) places) (only_in path (inside path all) ∙ present) in
       some ∙ sym all
 
   -- the first of some places is the same, where it is in the set
@@ -106,7 +106,7 @@ module _ (files : Files) (folders : List (List ℕ)) (source : List ℕ) (is_in 
   going_agree levels below path inside target among state =
       let reached : (found : List ℕ) → first_there files (candidates folders path target) ≡ Some found → IsTrue (is_in found) = is_closed.includes_in path inside target among in
       ap (λ found. found_or_not found >>= λ path. processed (only is_in files) folders levels path state) (first_only files is_in (candidates folders path target) reached)
-          ∙ entered_agree (λ path now. processed (only is_in files) folders levels path now) (λ path now. processed files folders levels path now) below (first_there files (candidates folders path target)) reached state
+      ∙ entered_agree (λ path now. processed (only is_in files) folders levels path now) (λ path now. processed files folders levels path now) below (first_there files (candidates folders path target)) reached state
 
   -- a file of the set gives the same
   processed_agree : (levels : ℕ) (path : List ℕ) → IsTrue (is_in path) → (state : State)
@@ -114,7 +114,7 @@ module _ (files : Files) (folders : List (List ℕ)) (source : List ℕ) (is_in 
   processed_agree zero path inside state = refl
   processed_agree (suc levels) path inside state =
       ap (λ file. ran (going_into (λ found now. processed (only is_in files) folders levels found now) (only is_in files) folders path) (lines_of (unwrap_or file [])) [] state) (only_in files is_in path inside)
-          ∙ ran_agree _ _ (lines_of (bytes_at files path)) (going_agree levels (processed_agree levels) path inside) [] state
+      ∙ ran_agree _ _ (lines_of (bytes_at files path)) (going_agree levels (processed_agree levels) path inside) [] state
 
   -- preprocessing with the files of the set alone gives the same
   pub preprocessed_agree : (macros : Macros) → preprocessed (only is_in files) folders macros source ≡ preprocessed files folders macros source

@@ -1,7 +1,6 @@
 -- Files that are met: behind those before, few, all there, and in each closed set.
-use Rattle.std.proofs.Common.{◌≡◌, ◌≤◌, ◌<◌, ◌+◌, ℕ, List, [], ◌∷◌, ◌++◌, Bool, true, false, ◌||◌, Option, Some, None, Result, Ok, Err, IsTrue, length, refl, sym, ap, subst, ◌∙◌, arith, append_assoc, inl, inr, append-nil, ltb-true}
+use Rattle.std.proofs.Common.{◌≡◌, ◌≤◌, ◌<◌, ℕ, List, [], ◌∷◌, ◌++◌, Bool, true, false, ◌||◌, Option, Some, None, Ok, Err, IsTrue, length, refl, sym, ap, subst, ◌∙◌, arith, append_assoc, inl, inr, append-nil, ltb-true}
 use Rattle.std.specs.Prelude.{◌⊎◌, nat_lt, nat_le, bytes_eq, if◌then◌else◌}
-use Rattle.std.specs.List.{list_any}
 use Rattle.std.specs.Option.{is_some}
 use Rattle.std.proofs.lemmas.Bool.{or_cases, false≢true}
 use Rattle.std.proofs.lemmas.List.{length_push}
@@ -116,7 +115,7 @@ module _ (files : Files) (folders : List (List ℕ)) (source : List ℕ) where
   refused_or P path None next h = tt
   refused_or P path (Some bytes) next h =
       on_bool (nat_le (length bytes) max_size) (λ test. HoldsOk P (unless_refused (refusal_of_read path (if test then reads.Bytes bytes else reads.TooLong)) next))
-          (λ _. on_bool (is_some (placeholder_of bytes)) (λ test. HoldsOk P (unless_refused (if test then Some (refusals.Generated path) else None) next)) (λ _. tt) (λ _. h refl)) (λ _. tt)
+      (λ _. on_bool (is_some (placeholder_of bytes)) (λ test. HoldsOk P (unless_refused (if test then Some (refusals.Generated path) else None) next)) (λ _. tt) (λ _. h refl)) (λ _. tt)
 
   -- a file that is met is among them
   abbrev pub MeetsFile : List ℕ → List (List ℕ) → List (List ℕ) → Type 0
@@ -127,7 +126,7 @@ module _ (files : Files) (folders : List (List ℕ)) (source : List ℕ) where
   met_file_goes path met needed =
       let fresh : Meeting = unless_refused (refusal_of path (files path)) (met ++ path ∷ []) in
       on_bool (is_among met path) (λ test. HoldsOk (MeetsFile path met) (if test then Ok met else (if nat_lt (length met) max_files then fresh else Err TooMany)))
-          (λ among. (nothing_met met, among))
-          (λ _. on_bool (nat_lt (length met) max_files) (λ test. HoldsOk (MeetsFile path met) (if test then fresh else Err TooMany))
-              (λ room. refused_or (MeetsFile path met) path (files path) (met ++ path ∷ []) (λ there. (one_met met path (ltb-true (length met) max_files room) there needed, among_last met path)))
-              (λ _. tt))
+      (λ among. (nothing_met met, among))
+      (λ _. on_bool (nat_lt (length met) max_files) (λ test. HoldsOk (MeetsFile path met) (if test then fresh else Err TooMany))
+      (λ room. refused_or (MeetsFile path met) path (files path) (met ++ path ∷ []) (λ there. (one_met met path (ltb-true (length met) max_files room) there needed, among_last met path)))
+      (λ _. tt))

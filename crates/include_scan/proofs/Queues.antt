@@ -1,17 +1,14 @@
 -- How the queue changes where a file is met or taken.
-use Rattle.std.proofs.Common.{◌≡◌, ◌≤◌, ◌<◌, ◌+◌, ℕ, suc, List, [], ◌∷◌, ◌++◌, Bool, true, false, Option, Some, None, Result, Ok, Err, IsTrue, length, take, drop, get_or, ◌-◌, refl, sym, ap, subst, ◌∙◌, arith, inl, inr, lit≤}
+use Rattle.std.proofs.Common.{◌≡◌, ◌≤◌, ◌<◌, ◌+◌, ℕ, suc, List, [], ◌∷◌, ◌++◌, Bool, true, false, Option, Some, None, Result, Ok, Err, IsTrue, length, take, drop, get_or, ◌-◌, refl, sym, ap, subst, ◌∙◌, arith, inl, inr}
 use Rattle.std.specs.Prelude.{◌⊎◌, nat_lt, nat_le, bytes_eq, unwrap_or, if◌then◌else◌, IsErr, IsErrAnd, OnOk}
 use Rattle.std.specs.List.{list_any}
 use Rattle.std.specs.Option.{is_some, option_to_list}
 use Rattle.std.proofs.lemmas.Bool.{false≢true, le-ltb, lt-ltb, leb-true}
-use Rattle.std.proofs.lemmas.List.{length_push, length-map, length-drop, length-append, map-append, drop-append-le, drop_more, take-append-drop}
+use Rattle.std.proofs.lemmas.List.{length_push, length-map, length-drop, map-append, drop-append-le, drop_more, take-append-drop}
 use Rattle.std.proofs.lemmas.List.Folds.{list_any-append}
 use Rattle.object_name.specs.Name.{max_size}
 use Rattle.thunk_codec.proofs.Paths.{bytes_eq-self}
-use Rattle.thunk_codec.specs.Placeholder.{placeholder_of}
 use Rattle.file_tree.specs.Files.{file_read}
-use Rattle.file_tree.specs.declared.refusal.FileRefusal.{FileRefusal}
-use Rattle.file_tree.specs.declared.refusal.FileRefusal.TheVariants as refusals
 use Rattle.file_tree.specs.declared.tree.FileRead.{FileRead}
 use Rattle.file_tree.specs.declared.tree.FileRead.TheVariants as reads
 use Rattle.tool_text.specs.Including.{Files}
@@ -100,14 +97,14 @@ bytes_read : (file : Option (List ℕ)) (bytes : List ℕ) → reads.Bytes bytes
 bytes_read None bytes is = ap read_bytes is
 bytes_read (Some held) bytes is =
     on_bool (nat_le (length held) max_size) (λ test. reads.Bytes bytes ≡ (if test then reads.Bytes held else reads.TooLong) → bytes ≡ held)
-        (λ _ same. ap read_bytes same) (λ _ same. absurd (false≢true (sym (ap is_bytes same)))) is
+    (λ _ same. ap read_bytes same) (λ _ same. absurd (false≢true (sym (ap is_bytes same)))) is
 
 -- a file that isn't refused has no more bytes than an object may have
 short : (path : List ℕ) (file : Option (List ℕ)) → refusal_of path file ≡ None → length (unwrap_or file []) ≤ max_size
 short path None is = absurd (false≢true (sym (ap is_some is)))
 short path (Some held) is =
     on_bool (nat_le (length held) max_size) (λ test. refusal_of_read path (if test then reads.Bytes held else reads.TooLong) ≡ None → length held ≤ max_size)
-        (λ fits _. leb-true (length held) max_size fits) (λ _ same. absurd (false≢true (sym (ap is_some same)))) is
+    (λ fits _. leb-true (length held) max_size fits) (λ _ same. absurd (false≢true (sym (ap is_some same)))) is
 
 module _ (files : Files) (place : ℕ) (before after : Queue) (waits : Waits files place before) where
   -- a new file waits behind the others
@@ -127,9 +124,9 @@ module _ (files : Files) (place : ℕ) (before after : Queue) (waits : Waits fil
             ∙ ap (inputs_of files) (sym (drop-append-le place keys (path ∷ []) waits.within) ∙ ap (drop place) (sym all)))));
         fine = λ other among. by_parts none other (among_cases keys (path ∷ []) other (subst (λ paths. IsTrue (is_among paths other)) all among));
       } where
-    by_parts : refusal_of path (files path) ≡ None → (other : List ℕ) → IsTrue (is_among before.met.keys other) ⊎ IsTrue (is_among (path ∷ []) other) → refusal_of other (files other) ≡ None
-    by_parts none other (inl earlier) = waits.fine other earlier
-    by_parts none other (inr last) = subst (λ p. refusal_of p (files p) ≡ None) (sym (among_one path other last)) none
+        by_parts : refusal_of path (files path) ≡ None → (other : List ℕ) → IsTrue (is_among before.met.keys other) ⊎ IsTrue (is_among (path ∷ []) other) → refusal_of other (files other) ≡ None
+        by_parts none other (inl earlier) = waits.fine other earlier
+        by_parts none other (inr last) = subst (λ p. refusal_of p (files p) ≡ None) (sym (among_one path other last)) none
 
   -- the first of some files that wait
   record First (keys : List (List ℕ)) (file : List ℕ × List ℕ) (items : List (List ℕ × List ℕ)) : Type 0 where
@@ -163,17 +160,22 @@ module _ (files : Files) (place : ℕ) (before after : Queue) (waits : Waits fil
       let low : place < length before.met.keys = omega (arith, long) in
       let next : first.rest ≡ drop (place + 1) before.met.keys = ap (drop 1) (sym first.keys_are ∙ drop_more before.met.keys place file.0 low) in
       let among : IsTrue (is_among before.met.keys file.0) =
-          subst (λ keys. IsTrue (is_among keys file.0)) (take-append-drop place before.met.keys)
-              (list_any-append (bytes_eq file.0) (take place before.met.keys) (drop place before.met.keys)
-                  ∙ or_second _ _ (ap (list_any (bytes_eq file.0)) first.keys_are ∙ or_first _ _ (bytes_eq-self file.0))) in
-      (first.keys_are ∙ ap (λ rest. file.0 ∷ rest) next,
-       (first.bytes_are,
-       (subst (λ bytes. length bytes ≤ max_size) (sym first.bytes_are) (short file.0 (files file.0) (waits.fine file.0 among)),
-       record {
-         within = subst (λ met. place + 1 ≤ length met.keys) (sym met) (omega (arith, low));
-         waiting = first.others ∙ (ap (inputs_of files) next ∙ ap (λ met. inputs_of files (drop (place + 1) met.keys)) (sym met));
-         fine = subst (λ met. NoneRefused files met.keys) (sym met) waits.fine;
-       })))
+      subst (λ keys. IsTrue (is_among keys file.0)) (take-append-drop place before.met.keys)
+      (list_any-append (bytes_eq file.0) (take place before.met.keys) (drop place before.met.keys)
+      ∙ or_second _ _ (ap (list_any (bytes_eq file.0)) first.keys_are ∙ or_first _ _ (bytes_eq-self file.0))) in (
+        first.keys_are ∙ ap (λ rest. file.0 ∷ rest) next,
+        (
+          first.bytes_are,
+          (
+            subst (λ bytes. length bytes ≤ max_size) (sym first.bytes_are) (short file.0 (files file.0) (waits.fine file.0 among)),
+            record {
+              within = subst (λ met. place + 1 ≤ length met.keys) (sym met) (omega (arith, low));
+              waiting = first.others ∙ (ap (inputs_of files) next ∙ ap (λ met. inputs_of files (drop (place + 1) met.keys)) (sym met));
+              fine = subst (λ met. NoneRefused files met.keys) (sym met) waits.fine;
+            },
+          ),
+        ),
+      )
 
   -- what is taken is the next file
   pub is_next : (result : Option (List ℕ × List ℕ)) → before.waiting.items ≡ option_to_list result ++ after.waiting.items → after.waiting.items ≡ drop 1 before.waiting.items

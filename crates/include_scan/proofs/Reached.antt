@@ -1,5 +1,5 @@
 -- What a scan has met when it ends: the least closed set, of files that are all there.
-use Rattle.std.proofs.Common.{◌≡◌, ◌≤◌, ◌<◌, ◌+◌, ℕ, suc, zero, List, [], ◌∷◌, ◌++◌, Bool, true, false, Option, Some, None, Result, Ok, Err, IsTrue, length, take, drop, get_or, length-append, lit<, lit≤, refl, sym, ap, subst, ◌∙◌, arith, inl, inr}
+use Rattle.std.proofs.Common.{◌≡◌, ◌≤◌, ◌<◌, ◌+◌, ℕ, suc, zero, List, [], ◌∷◌, ◌++◌, Option, Some, None, IsTrue, length, take, drop, get_or, length-append, lit<, lit≤, refl, sym, ap, subst, ◌∙◌, arith, inl, inr}
 use Rattle.std.specs.Prelude.{◌⊎◌, Contains, unwrap_or}
 use Rattle.std.specs.List.{flat_map}
 use Rattle.std.proofs.lemmas.Bool.{cases_lt, false≢true}
@@ -11,9 +11,9 @@ use Rattle.thunk_codec.proofs.Paths.{bytes_eq-self}
 use Rattle.text_lines.specs.Lines.{lines_of}
 use Rattle.tool_text.specs.Directive.{Directive, Text, Empty, Include, Define, Undef, Ifdef, Ifndef, If, Else, Endif, Unknown, Target, directive_of}
 use Rattle.tool_text.specs.Including.{Files, candidates, first_there}
-use Rattle.include_scan.specs.Scanned.{IsClosed, IsScanned, asked_by, include_targets, bytes_at, is_among}
-use Rattle.include_scan.specs.Scanning.{Meeting, max_files, met_file, met_found, after_directive, after_lines, after_file, after_first, gathered, scan_of}
-use Rattle.include_scan.proofs.Onward.{HoldsOk, holds_map, bind_holds, AllIn, exists, Onward, nothing_met, later_met, still_met, IsNeeded, MeetsFile, met_file_goes, among_cases, among_one}
+use Rattle.include_scan.specs.Scanned.{IsScanned, asked_by, include_targets, bytes_at, is_among}
+use Rattle.include_scan.specs.Scanning.{max_files, met_file, met_found, after_directive, after_lines, after_file, after_first, gathered, scan_of}
+use Rattle.include_scan.proofs.Onward.{HoldsOk, holds_map, bind_holds, AllIn, exists, Onward, nothing_met, later_met, still_met, MeetsFile, met_file_goes, among_cases, among_one}
 
 -- nothing is in an empty list
 none_in : {A : Type 0} (x : A) → Contains [] x → ⊥
@@ -52,7 +52,7 @@ module _ (files : Files) (folders : List (List ℕ)) (source : List ℕ) where
       is_none (Some x) = ⊥
   found_goes path met target among asks (Some place) is =
       holds_map (met_file files place met) (λ now h. (h.0, λ found same. subst (λ p. IsTrue (is_among now (unwrap_or p []))) same h.1))
-          (met_file_goes files folders source place met (λ other closed all. closed.includes_in path (all path among) target asks place is))
+      (met_file_goes files folders source place met (λ other closed all. closed.includes_in path (all path among) target asks place is))
 
   directive_goes : (path : List ℕ) (number : ℕ) (met : List (List ℕ)) (d : Directive) → IsTrue (is_among met path)
       → ((target : Target) → Contains (asked_by d) target → Contains (include_targets (bytes_at files path)) target)
@@ -61,12 +61,12 @@ module _ (files : Files) (folders : List (List ℕ)) (source : List ℕ) where
   directive_goes path number met (Include None) among asks = tt
   directive_goes path number met (Include (Some target)) among asks =
       holds_map (met_found files (first_there files (candidates folders path target)) met)
-          (λ now h. (h.0, λ other c found is. covers other found (Contains-push_cases [] target other c) is now h.1))
-          (found_goes path met target among (asks target (0, lit< tt, refl)) (first_there files (candidates folders path target)) refl) where
-    covers : (other : Target) (found : List ℕ) → Contains [] other ⊎ (target ≡ other) → first_there files (candidates folders path other) ≡ Some found
-        → (now : List (List ℕ)) → ((found : List ℕ) → first_there files (candidates folders path target) ≡ Some found → IsTrue (is_among now found)) → IsTrue (is_among now found)
-    covers other found (inl c) is now h = absurd (none_in other c)
-    covers other found (inr same) is now h = h found (ap (λ t. first_there files (candidates folders path t)) same ∙ is)
+      (λ now h. (h.0, λ other c found is. covers other found (Contains-push_cases [] target other c) is now h.1))
+      (found_goes path met target among (asks target (0, lit< tt, refl)) (first_there files (candidates folders path target)) refl) where
+        covers : (other : Target) (found : List ℕ) → Contains [] other ⊎ (target ≡ other) → first_there files (candidates folders path other) ≡ Some found
+            → (now : List (List ℕ)) → ((found : List ℕ) → first_there files (candidates folders path target) ≡ Some found → IsTrue (is_among now found)) → IsTrue (is_among now found)
+        covers other found (inl c) is now h = absurd (none_in other c)
+        covers other found (inr same) is now h = h found (ap (λ t. first_there files (candidates folders path t)) same ∙ is)
   directive_goes path number met Text among asks = goes_none path met
   directive_goes path number met Empty among asks = goes_none path met
   directive_goes path number met (Define macro) among asks = goes_none path met
@@ -92,10 +92,10 @@ module _ (files : Files) (folders : List (List ℕ)) (source : List ℕ) where
       let first : List Target = asked_by (directive_of line) in
       let others : List Target = flat_map (λ line. asked_by (directive_of line)) lines in
       bind_holds (Goes (first ++ others) path met) (after_directive files folders path number (directive_of line) met) (λ now. after_lines files folders path (number + 1) lines now)
-          (directive_goes path number met (directive_of line) among (λ target c. asks target (Contains-append_left first others target c)))
-          (λ now h. holds_map (after_lines files folders path (number + 1) lines now)
-              (λ later g. (later_met files folders source met now later h.0 g.0, covers_both first others path later (still_covers first path now later g.0 h.1) g.1))
-              (lines_go path lines (number + 1) now (still_met files folders source met now h.0 path among) (λ target c. asks target (Contains-append_right first others target c))))
+      (directive_goes path number met (directive_of line) among (λ target c. asks target (Contains-append_left first others target c)))
+      (λ now h. holds_map (after_lines files folders path (number + 1) lines now)
+      (λ later g. (later_met files folders source met now later h.0 g.0, covers_both first others path later (still_covers first path now later g.0 h.1) g.1))
+      (lines_go path lines (number + 1) now (still_met files folders source met now h.0 path among) (λ target c. asks target (Contains-append_right first others target c))))
 
   -- the first so many of the files that were met are covered
   abbrev Covered : ℕ → List (List ℕ) → Type 0
@@ -109,20 +109,21 @@ module _ (files : Files) (folders : List (List ℕ)) (source : List ℕ) where
   file_goes place met covered low =
       let path : List ℕ = get_or met place [] in
       subst (λ waiting. HoldsOk (GoesThrough place met) (after_first files folders waiting met)) (sym (drop-cons met place [] low))
-          (holds_map (after_file files folders path met) (λ now h. (h.0, covered_more place met now covered low h.0 h.1))
-              (lines_go path (lines_of (bytes_at files path)) 1 met (list_any_at _ met place [] low (bytes_eq-self path)) (λ target c. c))) where
-    covered_more : (place : ℕ) (met now : List (List ℕ)) → Covered place met → place < length met → Onward files folders source met now
-        → Covers (include_targets (bytes_at files (get_or met place []))) (get_or met place []) now → Covered (place + 1) now
-    covered_more place met now covered low onward covers path among =
-        by_parts (among_cases (take place met) (get_or met place [] ∷ []) path (subst (λ paths. IsTrue (is_among paths path)) front among)) where
-      front : take (place + 1) now ≡ take place met ++ get_or met place [] ∷ []
-      front = let long = length-append met onward.more in
-          ap (take (place + 1)) onward.is ∙ (take_more (met ++ onward.more) place [] (omega (arith, low, long))
-          ∙ (ap (λ paths. paths ++ get_or (met ++ onward.more) place [] ∷ []) (take-append-le place met onward.more (omega (arith, low)))
-          ∙ ap (λ path. take place met ++ path ∷ []) (get_or_append_left met onward.more [] place low)))
-      by_parts : IsTrue (is_among (take place met) path) ⊎ IsTrue (is_among (get_or met place [] ∷ []) path) → Covers (include_targets (bytes_at files path)) path now
-      by_parts (inl before) = still_covers _ path met now onward (covered path before)
-      by_parts (inr last) = subst (λ path. Covers (include_targets (bytes_at files path)) path now) (sym (among_one (get_or met place []) path last)) covers
+      (holds_map (after_file files folders path met) (λ now h. (h.0, covered_more place met now covered low h.0 h.1))
+      (lines_go path (lines_of (bytes_at files path)) 1 met (list_any_at _ met place [] low (bytes_eq-self path)) (λ target c. c))) where
+        covered_more : (place : ℕ) (met now : List (List ℕ)) → Covered place met → place < length met → Onward files folders source met now
+            → Covers (include_targets (bytes_at files (get_or met place []))) (get_or met place []) now → Covered (place + 1) now
+        covered_more place met now covered low onward covers path among =
+            by_parts (among_cases (take place met) (get_or met place [] ∷ []) path (subst (λ paths. IsTrue (is_among paths path)) front among)) where
+              front : take (place + 1) now ≡ take place met ++ get_or met place [] ∷ []
+              front = let long = length-append met onward.more in
+                  ap (take (place + 1)) onward.is ∙ (take_more (met ++ onward.more) place [] (omega (arith, low, long))
+                  ∙ (ap (λ paths. paths ++ get_or (met ++ onward.more) place [] ∷ []) (take-append-le place met onward.more (omega (arith, low)))
+                  ∙ ap (λ path. take place met ++ path ∷ []) (get_or_append_left met onward.more [] place low)))
+
+              by_parts : IsTrue (is_among (take place met) path) ⊎ IsTrue (is_among (get_or met place [] ∷ []) path) → Covers (include_targets (bytes_at files path)) path now
+              by_parts (inl before) = still_covers _ path met now onward (covered path before)
+              by_parts (inr last) = subst (λ path. Covers (include_targets (bytes_at files path)) path now) (sym (among_one (get_or met place []) path last)) covers
 
   past_the_end : (place : ℕ) (met : List (List ℕ)) → Covered place met → length met ≤ place → Covered (place + 1) met
   past_the_end place met covered high path among =
@@ -144,9 +145,9 @@ module _ (files : Files) (folders : List (List ℕ)) (source : List ℕ) where
   gathered_goes zero place met covered = (nothing_met files folders source met, subst (λ end. Covered end met) (omega arith) covered)
   gathered_goes (suc more) place met covered =
       bind_holds (Gathers (place + suc more) met) (after_first files folders (drop place met) met) (λ now. gathered files folders more (place + 1) now) (place_goes place met covered)
-          (λ now h. holds_map (gathered files folders more (place + 1) now)
-              (λ later g. (later_met files folders source met now later h.0 g.0, subst (λ end. Covered end later) (omega arith) g.1))
-              (gathered_goes more (place + 1) now h.1))
+      (λ now h. holds_map (gathered files folders more (place + 1) now)
+      (λ later g. (later_met files folders source met now later h.0 g.0, subst (λ end. Covered end later) (omega arith) g.1))
+      (gathered_goes more (place + 1) now h.1))
 
   none_among : (path : List ℕ) → IsTrue (is_among [] path) → ⊥
   none_among path h = false≢true h
@@ -175,4 +176,4 @@ module _ (files : Files) (folders : List (List ℕ)) (source : List ℕ) where
   scan_goes = bind_holds Found (met_file files source []) (λ met. gathered files folders max_files 0 met)
       (met_file_goes files folders source source [] (λ other closed all. closed.source_in))
       (λ first h. holds_map (gathered files folders max_files 0 first) (λ met g. found first met h g)
-          (gathered_goes max_files 0 first (λ path among. absurd (none_among path among))))
+      (gathered_goes max_files 0 first (λ path among. absurd (none_among path among))))

@@ -20,7 +20,7 @@ module _ {T : Type 0} (tells : Type 0) (files : T → Files) (faults : T → ℕ
 
   -- the lines that are left meet what all lines meet
   pub record Left (folders : List (List ℕ)) (path bytes : List ℕ) (before queue : Queue) (number : ℕ) (rest : List ℕ) : Type 0 where
-    pub so_far : tells → (place : ℕ) → Waits (files old) place before
+    pub so_far : tells → (place : ℕ) → Waits (files old) place before → length bytes ≤ max_size
         → (after_lines (files old) folders path number (lines_of rest) queue.met.keys ≡ after_lines (files old) folders path 1 (lines_of bytes) before.met.keys) × Waits (files old) place queue
     pub counted : number + length rest ≤ 1 + length bytes
     pub keeps : Keeps

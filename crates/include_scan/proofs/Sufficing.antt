@@ -1,5 +1,5 @@
 -- The scanned files alone, as the inputs of a job, give what all files give.
-use Rattle.std.proofs.Common.{◌≡◌, ℕ, List, [], ◌∷◌, Bool, true, false, ◌||◌, Option, Some, None, Ok, IsTrue, refl, sym, ap, subst, ◌∙◌}
+use Rattle.std.proofs.Common.{◌≡◌, ℕ, List, [], ◌∷◌, true, false, ◌||◌, Option, Some, None, Ok, IsTrue, refl, sym, ap, subst, ◌∙◌}
 use Rattle.std.specs.Prelude.{bytes_eq, unwrap_or, if◌then◌else◌}
 use Rattle.std.specs.Option.{is_some}
 use Rattle.std.proofs.lemmas.Bool.{false≢true}
@@ -8,9 +8,8 @@ use Rattle.std.proofs.Math.Path.{fun_ext}
 use Rattle.thunk_codec.proofs.Paths.{bytes_eq-self}
 use Rattle.thunk_codec.specs.Job.{input_at}
 use Rattle.tool_text.specs.Including.{Files}
-use Rattle.tool_text.specs.Expand.{Macros}
 use Rattle.tool_text.specs.Preprocess.{preprocessed}
-use Rattle.include_scan.specs.Scanned.{IsClosed, IsScanned, Suffices, bytes_at, inputs_of, is_among, only}
+use Rattle.include_scan.specs.Scanned.{IsScanned, Suffices, bytes_at, inputs_of, is_among, only}
 use Rattle.include_scan.specs.Scanning.{IsInOrder, scan_of}
 use Rattle.include_scan.proofs.Agreeing.{preprocessed_agree}
 use Rattle.include_scan.proofs.Onward.{HoldsOk, AllIn, exists, on_bool, or_first, or_second}
@@ -37,10 +36,10 @@ module _ (files : Files) (folders : List (List ℕ)) (source : List ℕ) where
   inputs_only [] all path = refl
   inputs_only (first ∷ paths) all path =
       on_bool (bytes_eq first path) (λ test. (if test then Some (bytes_at files first) else input_at path (inputs_of files paths)) ≡ only (is_among (first ∷ paths)) files path)
-          (λ is. subst (λ path. Some (bytes_at files first) ≡ only (is_among (first ∷ paths)) files path) ((bytes_eq-Decides first path).0 is)
-              (head_only first paths (all first (head_among first paths))))
-          (λ is_not. inputs_only paths (λ other among. all other (or_second _ _ among)) path
-              ∙ sym (ap (λ test. if test || is_among paths path then files path else None) (differ first path is_not)))
+      (λ is. subst (λ path. Some (bytes_at files first) ≡ only (is_among (first ∷ paths)) files path) ((bytes_eq-Decides first path).0 is)
+      (head_only first paths (all first (head_among first paths))))
+      (λ is_not. inputs_only paths (λ other among. all other (or_second _ _ among)) path
+      ∙ sym (ap (λ test. if test || is_among paths path then files path else None) (differ first path is_not)))
 
   pub scanned_suffice : (paths : List (List ℕ)) → IsScanned files folders source (is_among paths) → AllIn files folders source (exists files folders source) paths → Suffices files folders source paths
   scanned_suffice paths scanned all macros =

@@ -1,5 +1,5 @@
 -- The files that were met and those of them that wait, and how each step of scanning leaves them.
-use Rattle.std.specs.Prelude.{◌≡◌, ◌≤◌, ℕ, ◌+◌, List, ◌∷◌, drop, length, Bool, false, Option, Some, None, Result, Ok, Err, IsTrue, OnOk}
+use Rattle.std.specs.Prelude.{◌≡◌, ◌≤◌, ℕ, ◌+◌, List, ◌∷◌, drop, length, false, Option, Some, None, Result, Ok, Err, IsTrue, OnOk}
 use Rattle.object_name.specs.Causes.{RoseBy}
 use Rattle.object_name.specs.Name.{max_size}
 use Rattle.object_name.specs.declared.trouble.Trouble.{Trouble}

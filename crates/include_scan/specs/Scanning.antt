@@ -1,6 +1,6 @@
 -- How the scanned files are found: file by file, in the order of first meeting, each file's include lines in order. The first
 -- refusal that is met is the answer.
-use Rattle.std.specs.Prelude.{◌≡◌, ℕ, zero, suc, ◌+◌, List, [], ◌∷◌, ◌++◌, drop, length, nat_lt, nat_le, Bool, true, Option, Some, None, Result, Ok, Err, if◌then◌else◌}
+use Rattle.std.specs.Prelude.{◌≡◌, ℕ, zero, suc, ◌+◌, List, [], ◌∷◌, ◌++◌, drop, length, nat_lt, true, Option, Some, None, Result, Ok, Err, if◌then◌else◌}
 use Rattle.std.specs.Option.{is_some}
 use Rattle.object_name.specs.Causes.{RoseBy}
 use Rattle.thunk_codec.specs.Placeholder.{placeholder_of}
@@ -11,7 +11,7 @@ use Rattle.file_tree.specs.declared.refusal.FileRefusal.TheVariants as refusals
 use Rattle.file_tree.specs.declared.tree.FileRead.{FileRead}
 use Rattle.file_tree.specs.declared.tree.FileRead.TheVariants as reads
 use Rattle.text_lines.specs.Lines.{lines_of}
-use Rattle.tool_text.specs.Directive.{Directive, Text, Empty, Include, Define, Undef, Ifdef, Ifndef, If, Else, Endif, Unknown, Target, directive_of}
+use Rattle.tool_text.specs.Directive.{Directive, Text, Empty, Include, Define, Undef, Ifdef, Ifndef, If, Else, Endif, Unknown, directive_of}
 use Rattle.tool_text.specs.Including.{Files, candidates, first_there}
 use Rattle.tool_text.specs.Trying.{◌>>=◌}
 use Rattle.include_scan.specs.declared.fault.ScanFault.{ScanFault}

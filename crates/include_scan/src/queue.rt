@@ -39,12 +39,7 @@ impl Queue {
     }
 
     /// Adds a new file, by what was read.
-    pub(crate) fn add(
-        &mut self,
-        alloc: Global,
-        path: Path,
-        read: FileRead,
-    ) -> Result<(), ScanFault>
+    pub(crate) fn add(&mut self, alloc: Global, path: Path, read: FileRead) -> Result<(), ScanFault>
         ensures exact { (files : Files) (place : ℕ) → Waits files place self.old → is_among self.old.met.keys path ≡ false → read ≡ file_read (files path)
             → Meets files place self.new (met_file files path self.old.met.keys) result }
         ensures cause { IfErr result (λ fault. fault ≢ ScanFault.Failed) }
@@ -86,7 +81,9 @@ fn judge(alloc: Global, path: &Path, read: FileRead) -> Result<Bytes, ScanFault>
 {
     let bytes = match read {
         FileRead::Absent => return Err(ScanFault::Refused(FileRefusal::NoFile(path.copy(alloc)?))),
-        FileRead::TooLong => return Err(ScanFault::Refused(FileRefusal::TooLong(path.copy(alloc)?))),
+        FileRead::TooLong => return Err(ScanFault::Refused(FileRefusal::TooLong(path.copy(
+            alloc,
+        )?))),
         FileRead::Bytes(bytes) => bytes,
     };
     if read_placeholder(bytes.as_slice()).is_some() {

@@ -31,7 +31,15 @@ fn gather<T: Tree>(
         let Some((path, bytes)) = queue.next() else {
             return Ok(());
         };
-        meet_lines(alloc, tree, folders, &path, bytes.as_slice(), queue, retries)?;
+        meet_lines(
+            alloc,
+            tree,
+            folders,
+            &path,
+            bytes.as_slice(),
+            queue,
+            retries,
+        )?;
     }
     Ok(())
 }
@@ -55,17 +63,24 @@ fn meet_all<T: Tree>(
     gather(alloc, tree, folders, queue, retries)
 }
 
+/// The paths of a set, in its order.
+fn listed(alloc: Global, met: IndexSet<Path>) -> Result<Many<Path>, AllocError>
+    ensures { IfOk result (λ paths. paths ≡ met.keys) }
+{
+    let mut paths = Many::new(alloc);
+    'paths: for path in met {
+        paths.push(path)?;
+    }
+    Ok(paths)
+}
+
 /// The paths that were met, in order.
 fn in_order(alloc: Global, met: IndexSet<Path>) -> Result<Many<Path>, AllocError>
     ensures { IfOk result (IsInOrder met.keys) }
 {
     let mut sorted = met;
     sorted.sort()?;
-    let mut paths = Many::new(alloc);
-    'paths: for path in sorted {
-        paths.push(path)?;
-    }
-    Ok(paths)
+    listed(alloc, sorted)
 }
 
 /// The files that preprocessing a source may read, in path order: the source and every file that an include line may find first, through

@@ -1,13 +1,12 @@
-use Rattle.std.proofs.Common.{rules, ◌≡◌, ◌≤◌, [], IfOk, ℕ, ◌+◌, ◌-◌, ◌*◌, ◌<◌, length, ◌/◌, ◌%◌, Bool, true, false, nat_eq, nat_lt, List, ◌∷◌, ◌++◌, slice_index_or, slice_set, bit_and, bit_or, Fits, w8, w32, w64, Bor, MutBor}
-use Rattle.include_scan.specs.Scanned.{IsScanned, Suffices, is_among}
-use Rattle.include_scan.specs.Scanning.{IsInOrder, ScanCause, Scans, gathered, max_files, scan_of}
-use Rattle.include_scan.specs.Queueing.{Leaves, StepCause, Waits}
+use Rattle.include_scan.proofs.Sufficing.{paths_scanned, paths_suffice}
 use Rattle.include_scan.proofs.scanning.scan.Goals as goal
 
--- src/scanning.rt:74:1
 pub returns-clause-scanned : goal.returns-clause-scanned
-returns-clause-scanned g c = ?
+returns-clause-scanned g c tells =
+    paths_scanned (g.T.Tree.files c.args.tree.now) c.args.folders.now c.args.file.now c.meet_all.new.queue.met.keys c.in_ok-in_order.field-0
+    (c.in_ok-meet_all.ensures.exact tells c.new-queue.ensures.met c.new-queue.ensures.waiting) c.in_ok-in_order.ensures
 
--- src/scanning.rt:74:1
 pub returns-clause-suffice : goal.returns-clause-suffice
-returns-clause-suffice g c = ?
+returns-clause-suffice g c tells =
+    paths_suffice (g.T.Tree.files c.args.tree.now) c.args.folders.now c.args.file.now c.meet_all.new.queue.met.keys c.in_ok-in_order.field-0
+    (c.in_ok-meet_all.ensures.exact tells c.new-queue.ensures.met c.new-queue.ensures.waiting) c.in_ok-in_order.ensures
