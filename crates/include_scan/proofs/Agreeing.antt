@@ -1,5 +1,5 @@
 -- Preprocessing with the files of a closed set alone agrees with preprocessing with all files.
-use Rattle.std.proofs.Common.{◌≡◌, ℕ, suc, zero, List, [], ◌∷◌, ◌++◌, Bool, true, false, Option, Some, None, Result, Ok, Err, IsTrue, refl, sym, ap, ◌∙◌}
+use Rattle.std.proofs.Common.{◌≡◌, ℕ, suc, zero, List, [], ◌∷◌, Bool, true, false, Option, Some, None, Result, Ok, Err, IsTrue, refl, sym, ap, ◌∙◌}
 use Rattle.std.specs.Prelude.{Contains, unwrap_or, if◌then◌else◌}
 use Rattle.std.specs.List.{flat_map}
 use Rattle.std.specs.Option.{is_some}
@@ -10,7 +10,7 @@ use Rattle.tool_text.specs.Directive.{Target, directive_of}
 use Rattle.tool_text.specs.Expand.{Macros}
 use Rattle.tool_text.specs.Including.{Files, candidates, first_there}
 use Rattle.tool_text.specs.declared.groups.Group.{Group}
-use Rattle.tool_text.specs.Preprocess.{State, Taken, taken, followed, closed, ran, found_or_not, going_into, processed, preprocessed}
+use Rattle.tool_text.specs.Preprocess.{State, Taken, taken, followed, ran, found_or_not, going_into, processed, preprocessed}
 use Rattle.tool_text.specs.Trying.{◌>>=◌}
 use Rattle.include_scan.specs.Scanned.{IsClosed, asked_by, include_targets, bytes_at, only}
 use Rattle.include_scan.proofs.Targets.{IsAmong, GoesInto, taken_goes}

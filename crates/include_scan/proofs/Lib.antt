@@ -3,3 +3,8 @@ pub mod Agreeing
 pub mod Onward
 pub mod Reached
 pub mod Sufficing
+pub mod Standing
+pub mod Queues
+pub mod Lines
+pub mod Gathering
+pub mod Sorted

@@ -1,7 +1,6 @@
 -- Files that are met: behind those before, few, all there, and in each closed set.
-use Rattle.std.proofs.Common.{◌≡◌, ◌≤◌, ◌<◌, ◌+◌, ℕ, List, [], ◌∷◌, ◌++◌, Bool, true, false, ◌||◌, Option, Some, None, Result, Ok, Err, IsTrue, length, refl, sym, ap, subst, ◌∙◌, arith, append_assoc, inl, inr, append-nil, ltb-true}
-use Rattle.std.specs.Prelude.{◌⊎◌, nat_lt, bytes_eq, if◌then◌else◌}
-use Rattle.std.specs.List.{list_any}
+use Rattle.std.proofs.Common.{◌≡◌, ◌≤◌, ◌<◌, ℕ, List, [], ◌∷◌, ◌++◌, Bool, true, false, ◌||◌, Option, Some, None, Ok, Err, IsTrue, length, refl, sym, ap, subst, ◌∙◌, arith, append_assoc, inl, inr, append-nil, ltb-true}
+use Rattle.std.specs.Prelude.{◌⊎◌, nat_lt, nat_le, bytes_eq, if◌then◌else◌}
 use Rattle.std.specs.Option.{is_some}
 use Rattle.std.proofs.lemmas.Bool.{or_cases, false≢true}
 use Rattle.std.proofs.lemmas.List.{length_push}
@@ -11,11 +10,12 @@ use Rattle.object_name.specs.Name.{max_size}
 use Rattle.thunk_codec.proofs.Paths.{bytes_eq-self}
 use Rattle.thunk_codec.specs.Placeholder.{placeholder_of}
 use Rattle.file_tree.specs.declared.refusal.FileRefusal.TheVariants as refusals
+use Rattle.file_tree.specs.declared.tree.FileRead.TheVariants as reads
 use Rattle.tool_text.specs.Including.{Files}
 use Rattle.tool_text.specs.Trying.{◌>>=◌}
 use Rattle.include_scan.specs.declared.fault.ScanFault.TheVariants.{TooMany}
 use Rattle.include_scan.specs.Scanned.{IsClosed, is_among}
-use Rattle.include_scan.specs.Scanning.{Meeting, max_files, refusal_of, unless_refused, met_file}
+use Rattle.include_scan.specs.Scanning.{Meeting, max_files, refusal_of, refusal_of_read, unless_refused, met_file}
 
 -- what holds of the files that were met, where there is no refusal
 abbrev pub HoldsOk : (List (List ℕ) → Type 0) → Meeting → Type 0
@@ -114,8 +114,8 @@ module _ (files : Files) (folders : List (List ℕ)) (source : List ℕ) where
       → HoldsOk P (unless_refused (refusal_of path file) next)
   refused_or P path None next h = tt
   refused_or P path (Some bytes) next h =
-      on_bool (nat_lt max_size (length bytes)) (λ test. HoldsOk P (unless_refused (if test then Some (refusals.TooLong path) else (if is_some (placeholder_of bytes) then Some (refusals.Generated path) else None)) next)) (λ _. tt)
-      (λ _. on_bool (is_some (placeholder_of bytes)) (λ test. HoldsOk P (unless_refused (if test then Some (refusals.Generated path) else None) next)) (λ _. tt) (λ _. h refl))
+      on_bool (nat_le (length bytes) max_size) (λ test. HoldsOk P (unless_refused (refusal_of_read path (if test then reads.Bytes bytes else reads.TooLong)) next))
+      (λ _. on_bool (is_some (placeholder_of bytes)) (λ test. HoldsOk P (unless_refused (if test then Some (refusals.Generated path) else None) next)) (λ _. tt) (λ _. h refl)) (λ _. tt)
 
   -- a file that is met is among them
   abbrev pub MeetsFile : List ℕ → List (List ℕ) → List (List ℕ) → Type 0

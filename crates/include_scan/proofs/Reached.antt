@@ -1,5 +1,5 @@
 -- What a scan has met when it ends: the least closed set, of files that are all there.
-use Rattle.std.proofs.Common.{◌≡◌, ◌≤◌, ◌<◌, ◌+◌, ℕ, suc, zero, List, [], ◌∷◌, ◌++◌, Bool, true, false, Option, Some, None, Result, Ok, Err, IsTrue, length, take, drop, get_or, length-append, lit<, lit≤, refl, sym, ap, subst, ◌∙◌, arith, inl, inr}
+use Rattle.std.proofs.Common.{◌≡◌, ◌≤◌, ◌<◌, ◌+◌, ℕ, suc, zero, List, [], ◌∷◌, ◌++◌, Option, Some, None, IsTrue, length, take, drop, get_or, length-append, lit<, lit≤, refl, sym, ap, subst, ◌∙◌, arith, inl, inr}
 use Rattle.std.specs.Prelude.{◌⊎◌, Contains, unwrap_or}
 use Rattle.std.specs.List.{flat_map}
 use Rattle.std.proofs.lemmas.Bool.{cases_lt, false≢true}
@@ -11,9 +11,9 @@ use Rattle.thunk_codec.proofs.Paths.{bytes_eq-self}
 use Rattle.text_lines.specs.Lines.{lines_of}
 use Rattle.tool_text.specs.Directive.{Directive, Text, Empty, Include, Define, Undef, Ifdef, Ifndef, If, Else, Endif, Unknown, Target, directive_of}
 use Rattle.tool_text.specs.Including.{Files, candidates, first_there}
-use Rattle.include_scan.specs.Scanned.{IsClosed, IsScanned, asked_by, include_targets, bytes_at, is_among}
-use Rattle.include_scan.specs.Scanning.{Meeting, max_files, met_file, met_found, after_directive, after_lines, after_file, after_first, gathered, scan_of}
-use Rattle.include_scan.proofs.Onward.{HoldsOk, holds_map, bind_holds, AllIn, exists, Onward, nothing_met, later_met, still_met, IsNeeded, MeetsFile, met_file_goes, among_cases, among_one}
+use Rattle.include_scan.specs.Scanned.{IsScanned, asked_by, include_targets, bytes_at, is_among}
+use Rattle.include_scan.specs.Scanning.{max_files, met_file, met_found, after_directive, after_lines, after_file, after_first, gathered, scan_of}
+use Rattle.include_scan.proofs.Onward.{HoldsOk, holds_map, bind_holds, AllIn, exists, Onward, nothing_met, later_met, still_met, MeetsFile, met_file_goes, among_cases, among_one}
 
 -- nothing is in an empty list
 none_in : {A : Type 0} (x : A) → Contains [] x → ⊥

@@ -1,5 +1,5 @@
 -- The scanned files alone, as the inputs of a job, give what all files give.
-use Rattle.std.proofs.Common.{◌≡◌, ℕ, List, [], ◌∷◌, Bool, true, false, ◌||◌, Option, Some, None, Ok, IsTrue, refl, sym, ap, subst, ◌∙◌}
+use Rattle.std.proofs.Common.{◌≡◌, ℕ, List, [], ◌∷◌, true, false, ◌||◌, Option, Some, None, Ok, IsTrue, refl, sym, ap, subst, ◌∙◌}
 use Rattle.std.specs.Prelude.{bytes_eq, unwrap_or, if◌then◌else◌}
 use Rattle.std.specs.Option.{is_some}
 use Rattle.std.proofs.lemmas.Bool.{false≢true}
@@ -8,9 +8,8 @@ use Rattle.std.proofs.Math.Path.{fun_ext}
 use Rattle.thunk_codec.proofs.Paths.{bytes_eq-self}
 use Rattle.thunk_codec.specs.Job.{input_at}
 use Rattle.tool_text.specs.Including.{Files}
-use Rattle.tool_text.specs.Expand.{Macros}
 use Rattle.tool_text.specs.Preprocess.{preprocessed}
-use Rattle.include_scan.specs.Scanned.{IsClosed, IsScanned, Suffices, bytes_at, inputs_of, is_among, only}
+use Rattle.include_scan.specs.Scanned.{IsScanned, Suffices, bytes_at, inputs_of, is_among, only}
 use Rattle.include_scan.specs.Scanning.{IsInOrder, scan_of}
 use Rattle.include_scan.proofs.Agreeing.{preprocessed_agree}
 use Rattle.include_scan.proofs.Onward.{HoldsOk, AllIn, exists, on_bool, or_first, or_second}

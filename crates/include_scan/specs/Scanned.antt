@@ -1,5 +1,5 @@
 -- The files that preprocessing a source may read: the least set that has the source and what each of its files may include.
-use Rattle.std.specs.Prelude.{◌≡◌, ℕ, List, [], ◌∷◌, Bool, Option, Some, None, IsTrue, Contains, map, unwrap_or, bytes_eq, if◌then◌else◌}
+use Rattle.std.specs.Prelude.{◌≡◌, ℕ, List, [], ◌∷◌, Bool, Some, None, IsTrue, Contains, map, unwrap_or, bytes_eq, if◌then◌else◌}
 use Rattle.std.specs.List.{flat_map, list_any}
 use Rattle.thunk_codec.specs.Job.{input_at}
 use Rattle.text_lines.specs.Lines.{lines_of}

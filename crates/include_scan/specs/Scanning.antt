@@ -1,15 +1,17 @@
 -- How the scanned files are found: file by file, in the order of first meeting, each file's include lines in order. The first
 -- refusal that is met is the answer.
-use Rattle.std.specs.Prelude.{◌≡◌, ℕ, zero, suc, ◌+◌, List, [], ◌∷◌, ◌++◌, drop, length, nat_lt, nat_le, Bool, true, Option, Some, None, Result, Ok, Err, if◌then◌else◌}
+use Rattle.std.specs.Prelude.{◌≡◌, ℕ, zero, suc, ◌+◌, List, [], ◌∷◌, ◌++◌, drop, length, nat_lt, true, Option, Some, None, Result, Ok, Err, if◌then◌else◌}
 use Rattle.std.specs.Option.{is_some}
 use Rattle.object_name.specs.Causes.{RoseBy}
-use Rattle.object_name.specs.Name.{max_size}
 use Rattle.thunk_codec.specs.Placeholder.{placeholder_of}
 use Rattle.thunk_codec.specs.Thunk.{rises}
+use Rattle.file_tree.specs.Files.{file_read}
 use Rattle.file_tree.specs.declared.refusal.FileRefusal.{FileRefusal}
 use Rattle.file_tree.specs.declared.refusal.FileRefusal.TheVariants as refusals
+use Rattle.file_tree.specs.declared.tree.FileRead.{FileRead}
+use Rattle.file_tree.specs.declared.tree.FileRead.TheVariants as reads
 use Rattle.text_lines.specs.Lines.{lines_of}
-use Rattle.tool_text.specs.Directive.{Directive, Text, Empty, Include, Define, Undef, Ifdef, Ifndef, If, Else, Endif, Unknown, Target, directive_of}
+use Rattle.tool_text.specs.Directive.{Directive, Text, Empty, Include, Define, Undef, Ifdef, Ifndef, If, Else, Endif, Unknown, directive_of}
 use Rattle.tool_text.specs.Including.{Files, candidates, first_there}
 use Rattle.tool_text.specs.Trying.{◌>>=◌}
 use Rattle.include_scan.specs.declared.fault.ScanFault.{ScanFault}
@@ -24,13 +26,15 @@ max_files = 4096
 abbrev pub Meeting : Type 0
 Meeting = Result (List (List ℕ)) ScanFault
 
--- the refusal of a file, if it has one: it isn't there, is over the size of an object, or is a placeholder
+-- the refusal of a file by what reading it gives, if it has one: it isn't there, is over the size of an object, or is a placeholder
+abbrev pub refusal_of_read : List ℕ → FileRead → Option FileRefusal
+refusal_of_read path reads.Absent = Some (refusals.NoFile path)
+refusal_of_read path reads.TooLong = Some (refusals.TooLong path)
+refusal_of_read path (reads.Bytes bytes) = if is_some (placeholder_of bytes) then Some (refusals.Generated path) else None
+
+-- the refusal of a file, if it has one
 abbrev pub refusal_of : List ℕ → Option (List ℕ) → Option FileRefusal
-refusal_of path None = Some (refusals.NoFile path)
-refusal_of path (Some bytes) =
-    if nat_lt max_size (length bytes) then Some (refusals.TooLong path)
-    else if is_some (placeholder_of bytes) then Some (refusals.Generated path)
-    else None
+refusal_of path file = refusal_of_read path (file_read file)
 
 -- one more file at the end, unless it is refused
 abbrev pub unless_refused : Option FileRefusal → List (List ℕ) → Meeting

@@ -2,8 +2,10 @@
 
 ghost use Rattle.std.specs.Prelude.{◌≡◌};
 ghost use Rattle.include_scan.specs.declared.fault.ScanFault.TheVariants.{Memory};
+ghost use Rattle.include_scan.specs.Queueing.{fault_of};
 
 use file_tree::FileRefusal;
+use object_name::Trouble;
 use std::alloc::{AllocError, AllocFailed};
 
 /// Why a source can't be scanned.
@@ -32,5 +34,16 @@ impl<T: Drop> From<AllocFailed<T>> for ScanFault {
 
     fn from(_: AllocFailed<T>) -> Self {
         ScanFault::Memory
+    }
+}
+
+impl From<Trouble> for ScanFault {
+    ghost from_gives = { λ trouble e. e ≡ fault_of trouble };
+
+    fn from(trouble: Trouble) -> Self {
+        match trouble {
+            Trouble::Failed => ScanFault::Failed,
+            Trouble::Memory => ScanFault::Memory,
+        }
     }
 }

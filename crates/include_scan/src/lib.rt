@@ -2,7 +2,10 @@
 #![tactic(auto)]
 
 mod fault;
+mod finding;
 pub mod laws;
+mod meeting;
+mod queue;
 mod scanning;
 
 pub use fault::ScanFault;

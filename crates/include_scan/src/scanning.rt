@@ -1,14 +1,87 @@
 //! Scanning.
 
-ghost use Rattle.std.specs.Prelude.{◌≡◌, ◌≤◌, IfOk};
+ghost use Rattle.std.specs.Prelude.{◌≡◌, ◌≤◌, [], IfOk};
 ghost use Rattle.include_scan.specs.Scanned.{IsScanned, Suffices, is_among};
-ghost use Rattle.include_scan.specs.Scanning.{ScanCause, Scans, scan_of};
+ghost use Rattle.include_scan.specs.Scanning.{IsInOrder, ScanCause, Scans, gathered, max_files, scan_of};
+ghost use Rattle.include_scan.specs.Queueing.{Leaves, StepCause, Waits};
 
 use crate::fault::ScanFault;
-use file_tree::Tree;
-use object_name::Many;
-use std::alloc::Global;
+use crate::meeting::meet_lines;
+use crate::queue::{MAX_FILES, Queue};
+use file_tree::{Tree, read_again};
+use indexmap::IndexSet;
+use object_name::{Many, TryCopy};
+use std::alloc::{AllocError, Global};
 use thunk_codec::{Folder, Path};
+
+/// Meets all files that the waiting files reach.
+fn gather<T: Tree>(
+    alloc: Global,
+    tree: &mut T,
+    folders: &[Folder],
+    queue: &mut Queue,
+    retries: u32,
+) -> Result<(), ScanFault>
+    ensures exact { T.tells → Waits (T.files tree.old) 0 queue.old → Leaves (gathered (T.files tree.old) folders.now max_files 0 queue.old.met.keys) queue.new.met.keys result }
+    ensures same { T.tells → T.files tree.new ≡ T.files tree.old }
+    ensures later { T.faults tree.old ≤ T.faults tree.new }
+    ensures cause { StepCause retries (T.faults tree.old) (T.faults tree.new) result }
+{
+    'files: for _ in 0..MAX_FILES {
+        let Some((path, bytes)) = queue.next() else {
+            return Ok(());
+        };
+        meet_lines(
+            alloc,
+            tree,
+            folders,
+            &path,
+            bytes.as_slice(),
+            queue,
+            retries,
+        )?;
+    }
+    Ok(())
+}
+
+/// Meets all files of a source.
+fn meet_all<T: Tree>(
+    alloc: Global,
+    tree: &mut T,
+    file: &Path,
+    folders: &[Folder],
+    queue: &mut Queue,
+    retries: u32,
+) -> Result<(), ScanFault>
+    ensures exact { T.tells → queue.old.met.keys ≡ [] → queue.old.waiting.items ≡ [] → Leaves (scan_of (T.files tree.old) folders.now file.now) queue.new.met.keys result }
+    ensures same { T.tells → T.files tree.new ≡ T.files tree.old }
+    ensures later { T.faults tree.old ≤ T.faults tree.new }
+    ensures cause { StepCause retries (T.faults tree.old) (T.faults tree.new) result }
+{
+    let read = read_again(alloc, tree, file, retries)?;
+    queue.add(alloc, file.copy(alloc)?, read)?;
+    gather(alloc, tree, folders, queue, retries)
+}
+
+/// The paths of a set, in its order.
+fn listed(alloc: Global, met: IndexSet<Path>) -> Result<Many<Path>, AllocError>
+    ensures { IfOk result (λ paths. paths ≡ met.keys) }
+{
+    let mut paths = Many::new(alloc);
+    'paths: for path in met {
+        paths.push(path)?;
+    }
+    Ok(paths)
+}
+
+/// The paths that were met, in order.
+fn in_order(alloc: Global, met: IndexSet<Path>) -> Result<Many<Path>, AllocError>
+    ensures { IfOk result (IsInOrder met.keys) }
+{
+    let mut sorted = met;
+    sorted.sort()?;
+    listed(alloc, sorted)
+}
 
 /// The files that preprocessing a source may read, in path order: the source and every file that an include line may find first, through
 /// all files that are so reached and all their groups. What is found nowhere is passed over. A failed call of the tree is tried again,
@@ -27,5 +100,7 @@ pub fn scan<T: Tree>(
     ensures later { T.faults tree.old ≤ T.faults tree.new }
     ensures cause { ScanCause retries (T.faults tree.old) (T.faults tree.new) result }
 {
-    Err(ScanFault::Memory)
+    let mut queue = Queue::new(alloc);
+    meet_all(alloc, tree, file, folders, &mut queue, retries)?;
+    Ok(in_order(alloc, queue.met)?)
 }
