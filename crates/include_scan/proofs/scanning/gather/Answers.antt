@@ -23,7 +23,7 @@ returns-in_err-meet_lines-clause-exact g c tells waits =
     (c.files.invariant.keeps.same tells) (c.in_err-meet_lines.ensures.exact tells) (c.files.counter + 1) next.1.1.1
     (subst (λ bytes. length bytes ≤ max_size) (sym c.as_slice.ensures) next.1.1.0) in
     leaves_fault _ c.meet_lines.new.queue.met.keys c.in_err-meet_lines.field-0.0 c.from_residual.result c.from_residual.ensures
-    (gathered_fault (g.T.Tree.files c.args.tree.now) c.args.folders.now c.files.counter c.files-test.true c.files.queue.met.keys _ c.in-Some.path c.as_slice.result.now
+    (gathered_fault (g.T.Tree.files c.args.tree.now) c.args.folders.now c.files.counter (let low = c.files-test.true in omega (arith, low)) c.files.queue.met.keys _ c.in-Some.path c.as_slice.result.now
     next.0 (c.as_slice.ensures ∙ next.1.0) _ left.0 c.in_err-meet_lines.field-0.0 c.meet_lines.new.queue.met.keys c.meet_lines.new.queue.met.keys
     (subst (λ before. Leaves (after_lines (g.T.Tree.files c.args.tree.now) c.args.folders.now c.in-Some.path 1 (lines_of c.as_slice.result.now) before.keys) c.meet_lines.new.queue.met.keys (Err c.in_err-meet_lines.field-0.0))
     c.in-Some.ensures.kept met.0))
@@ -37,7 +37,7 @@ files-preserved g c = record {
       → (after_lines files c.args.folders.now c.in-Some.path 1 (lines_of c.as_slice.result.now) c.next.new.self.met.keys ≡ Ok c.meet_lines.new.queue.met.keys) × Waits files place c.meet_lines.new.queue)
       (c.files.invariant.keeps.same tells) (c.in_ok-meet_lines.ensures.exact tells) (c.files.counter + 1) next.1.1.1
       (subst (λ bytes. length bytes ≤ max_size) (sym c.as_slice.ensures) next.1.1.0) in (
-        gathered_one (g.T.Tree.files c.args.tree.now) c.args.folders.now c.files.counter c.files-test.true c.files.queue.met.keys _ c.in-Some.path c.as_slice.result.now
+        gathered_one (g.T.Tree.files c.args.tree.now) c.args.folders.now c.files.counter (let low = c.files-test.true in omega (arith, low)) c.files.queue.met.keys _ c.in-Some.path c.as_slice.result.now
             next.0 (c.as_slice.ensures ∙ next.1.0) _ left.0 c.meet_lines.new.queue.met.keys
             (subst (λ before. after_lines (g.T.Tree.files c.args.tree.now) c.args.folders.now c.in-Some.path 1 (lines_of c.as_slice.result.now) before.keys ≡ Ok c.meet_lines.new.queue.met.keys)
             c.in-Some.ensures.kept met.0),
