@@ -8,6 +8,8 @@ mod cat;
 #[cfg(test)]
 mod command_lines;
 #[cfg(test)]
+mod compiling;
+#[cfg(test)]
 mod faults;
 #[cfg(test)]
 mod file_faults;

@@ -12,4 +12,6 @@ pub use fault::ScanFault;
 pub use scanning::scan;
 
 #[cfg(test)]
+mod preprocessing_tests;
+#[cfg(test)]
 mod tests;

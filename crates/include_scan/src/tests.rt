@@ -8,14 +8,14 @@ use std::process::Abort;
 use std::test::Fail;
 use thunk_codec::{Folder, Path};
 
-const PROGRAM: &[(&str, &str)] = &[
+pub const PROGRAM: &[(&str, &str)] = &[
     ("a.c", "#include \"a.h\"\n#include <stdio.h>\nfn f : K L\n"),
     ("a.h", "#include \"b.h\"\n#define K 2\n"),
     ("b.h", "#define L K\n"),
     ("sys/include/stdio.h", "#define putchar print\n"),
 ];
 
-const CYCLE: &[(&str, &str)] = &[
+pub const CYCLE: &[(&str, &str)] = &[
     ("a.c", "#ifdef Z\n#include \"z.h\"\n#endif\n"),
     ("z.h", "#include \"a.c\"\n"),
 ];
@@ -55,7 +55,7 @@ const COMPUTED: &[(&str, &str)] = &[
 const LONG: &[(&str, &str)] = &[("a.c", "#include \"l.h\"\n#include NAME\n")];
 
 /// A path.
-fn path(alloc: Global, text: &[u8]) -> Result<Path, Fail> {
+pub fn path(alloc: Global, text: &[u8]) -> Result<Path, Fail> {
     Ok(Path::read(alloc, text)?.ok_or("there is a path")?)
 }
 
@@ -65,7 +65,7 @@ fn folder(alloc: Global, text: &[u8]) -> Result<Folder, Fail> {
 }
 
 /// Some files.
-fn files_of(alloc: Global, files: &[(&str, &str)]) -> Result<Many<(Path, Bytes)>, Fail> {
+pub fn files_of(alloc: Global, files: &[(&str, &str)]) -> Result<Many<(Path, Bytes)>, Fail> {
     let mut held = Many::new(alloc);
     for file in files {
         let path = path(alloc, file.0.as_bytes())?;
