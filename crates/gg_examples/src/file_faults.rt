@@ -38,12 +38,17 @@ struct Build {
     outer: Name,
 }
 
+/// Adds the two thunks, and gives their names, the inner one's first.
+fn add_thunks(objects: &mut Objects) -> Result<(Name, Name), Fail> {
+    let inner = objects.cat_of_three()?;
+    let outer = objects.cat(&[Item::Out(inner, 0), Item::Out(inner, 0)])?;
+    Ok((inner, outer))
+}
+
 /// The build, where the listed calls of the store and of the tree fail.
 fn build_with(alloc: Global, of_store: &[u64], of_files: &[u64]) -> Result<Build, Fail> {
     let mut objects = Objects::new(alloc);
-    let inner = objects.cat_of_three()?;
-    let output = Item::Out(inner, 0);
-    let outer = objects.cat(&[output, output])?;
+    let (inner, outer) = add_thunks(&mut objects)?;
     let mut files = Files::new(alloc);
     files.add_placeholder(b"p", &outer)?;
     let place = Place::failing(objects, files, of_store, of_files)?;
