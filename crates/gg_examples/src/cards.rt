@@ -35,7 +35,7 @@ fn add_fib_of_two(objects: &mut Objects) -> Result<Name, Fail> {
 }
 
 /// Adds a thunk that fails with status 7, with its card.
-pub fn add_failing(objects: &mut Objects) -> Result<Name, Fail> {
+fn add_failing(objects: &mut Objects) -> Result<Name, Fail> {
     let function = objects.add(b"gg-tool fail\n")?;
     let mut text = text_with_argument(objects.alloc, &function, b'7')?;
     text.append(b"\no 3:out\nend\n")?;

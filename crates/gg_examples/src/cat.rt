@@ -10,7 +10,7 @@ use std::process::Abort;
 use std::test::Fail;
 
 /// The object `abc` and the note on a thunk were written, and nothing else.
-pub fn assert_wrote_abc(rt: &impl Abort, keeper: &MemKeeper, thunk: Name) -> Result<(), Fail> {
+fn assert_wrote_abc(rt: &impl Abort, keeper: &MemKeeper, thunk: Name) -> Result<(), Fail> {
     let puts = keeper.puts();
     assert_eq!(rt; puts.len(), 2);
     assert_eq!(rt; puts.first(), Some(&name_of(b"abc")?));

@@ -8,17 +8,9 @@ mod cat;
 #[cfg(test)]
 mod command_lines;
 #[cfg(test)]
-mod compiling;
-#[cfg(test)]
 mod faults;
 #[cfg(test)]
-mod file_faults;
-#[cfg(test)]
-mod files;
-#[cfg(test)]
 mod objects;
-#[cfg(test)]
-mod placeholders;
 #[cfg(test)]
 mod running;
 #[cfg(test)]

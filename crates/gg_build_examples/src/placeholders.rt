@@ -1,15 +1,41 @@
 //! Placeholder files that are forced, and files that are refused.
 
-use crate::cards::add_failing;
-use crate::cat::assert_wrote_abc;
 use crate::files::{Files, Place, assert_filed};
-use crate::objects::{Item, Objects};
+use crate::objects::{Item, Objects, append_name};
 use crate::running::{Ran, Said, assert_refused, assert_says};
+use blob_store::MemKeeper;
 use gg_cli::Status;
-use object_name::{Name, name_of};
+use object_name::{Bytes, Name, name_of};
 use std::alloc::Global;
 use std::process::Abort;
 use std::test::Fail;
+
+/// The object `abc` and the note on a thunk were written, and nothing else.
+fn assert_wrote_abc(rt: &impl Abort, keeper: &MemKeeper, thunk: Name) -> Result<(), Fail> {
+    let puts = keeper.puts();
+    assert_eq!(rt; puts.len(), 2);
+    assert_eq!(rt; puts.first(), Some(&name_of(b"abc")?));
+    assert_eq!(rt; puts.last(), Some(&thunk));
+    Ok(())
+}
+
+/// The text of a thunk with one argument of one byte and no inputs.
+fn text_with_argument(alloc: Global, function: &Name, argument: u8) -> Result<Bytes, Fail> {
+    let mut text = Bytes::new(alloc);
+    text.append(b"gg-thunk 1\nf ")?;
+    append_name(&mut text, function)?;
+    text.append(b"\na 1:")?;
+    text.append(&[argument])?;
+    Ok(text)
+}
+
+/// Adds a thunk that fails with status 7, with its card.
+fn add_failing(objects: &mut Objects) -> Result<Name, Fail> {
+    let function = objects.add(b"gg-tool fail\n")?;
+    let mut text = text_with_argument(objects.alloc, &function, b'7')?;
+    text.append(b"\no 3:out\nend\n")?;
+    objects.add(text.as_slice())
+}
 
 /// A card that isn't held.
 const NOSUCH: &[u8] = b"gg-tool nosuch\n";
