@@ -1,7 +1,7 @@
 -- Values that go to their files, one after another.
 use Rattle.std.proofs.Common.{◌≡◌, ℕ, ◌≤◌, List, [], ◌∷◌, ◌++◌, length, Option, Some, None, Result, Ok, Err, IsErr, IsErrAnd, ◌⊎◌, inl, inr, refl, sym, ap, subst, ◌∙◌, append_assoc, append-nil, arith}
 use Rattle.object_name.specs.Name.{ObjectName}
-use Rattle.object_name.specs.Streams.{IsFront}
+use Rattle.object_name.specs.Streams.{IsPrefix}
 use Rattle.blob_store.specs.Store.{Store, Contents, held}
 use Rattle.file_tree.specs.Files.{Files, Change, after_change, changed, MayChange}
 use Rattle.file_tree.specs.Files.Change.{Written}
@@ -10,18 +10,18 @@ use Rattle.file_tree.specs.declared.item.Item.TheVariants.{File, Bare}
 use Rattle.gg_cli.specs.declared.fault.FilingFault.{FilingFault}
 use Rattle.gg_cli.specs.declared.fault.FilingFault.TheVariants.{Missing, StoreFailed, FileFailed, Memory}
 use Rattle.gg_cli.specs.Filing.{Filing, nothing_filed, one_filed, file_then, item_filed, filed}
-use Rattle.gg_cli.specs.Ending.{FiledFront, FiledAll, FilesValues, FilingCause}
+use Rattle.gg_cli.specs.Ending.{FiledPrefix, FiledAll, FilesValues, FilingCause}
 
 -- ---- one file
 
--- a change that failed was made or was not: a front of one change
-pub may_be_filed : (path bytes : List ℕ) (old new : Files) → MayChange old (Written path bytes) new → FiledFront (one_filed path bytes) old new
-may_be_filed path bytes old new (inl same) = record { front = []; is_front = record { rest = Written path bytes ∷ []; whole = refl }; files = same }
-may_be_filed path bytes old new (inr made) = record { front = Written path bytes ∷ []; is_front = record { rest = []; whole = refl }; files = made }
+-- a change that failed was made or was not: a prefix of one change
+pub may_be_filed : (path bytes : List ℕ) (old new : Files) → MayChange old (Written path bytes) new → FiledPrefix (one_filed path bytes) old new
+may_be_filed path bytes old new (inl same) = record { prefix = []; is_prefix = record { rest = Written path bytes ∷ []; whole = refl }; files = same }
+may_be_filed path bytes old new (inr made) = record { prefix = Written path bytes ∷ []; is_prefix = record { rest = []; whole = refl }; files = made }
 
--- no change is a front of any
-pub none_filed : (filing : Filing) (files : Files) → FiledFront filing files files
-none_filed filing files = record { front = []; is_front = record { rest = filing.changes; whole = refl }; files = refl }
+-- no change is a prefix of any
+pub none_filed : (filing : Filing) (files : Files) → FiledPrefix filing files files
+none_filed filing files = record { prefix = []; is_prefix = record { rest = filing.changes; whole = refl }; files = refl }
 
 -- ---- some files, and others behind them
 
@@ -53,11 +53,11 @@ module _ (filing left : Filing) (before mid new : Files) (h : HasFiled filing le
     files = files_by k.part k.files;
   }
 
-  front_filed : FiledFront left mid new → FiledFront filing before new
-  front_filed k = record {
-    front = h.part ++ k.front;
-    is_front = record { rest = k.is_front.rest; whole = h.whole ∙ ap (λ l. h.part ++ l) k.is_front.whole ∙ sym (append_assoc h.part k.front k.is_front.rest) };
-    files = files_by k.front k.files;
+  prefix_filed : FiledPrefix left mid new → FiledPrefix filing before new
+  prefix_filed k = record {
+    prefix = h.part ++ k.prefix;
+    is_prefix = record { rest = k.is_prefix.rest; whole = h.whole ∙ ap (λ l. h.part ++ l) k.is_prefix.whole ∙ sym (append_assoc h.part k.prefix k.is_prefix.rest) };
+    files = files_by k.prefix k.files;
   }
 
   all_filed : (missing : Option ObjectName) → FiledAll left missing mid new → FiledAll filing missing before new
@@ -67,9 +67,9 @@ module _ (filing left : Filing) (before mid new : Files) (h : HasFiled filing le
   HasFiled-end : {T : Type 0} (r : Result T FilingFault) → FilesValues left mid new r → FilesValues filing before new r
   HasFiled-end (Ok v) k = all_filed None k
   HasFiled-end (Err (Missing name)) k = all_filed (Some name) k
-  HasFiled-end (Err StoreFailed) k = front_filed k
-  HasFiled-end (Err FileFailed) k = front_filed k
-  HasFiled-end (Err Memory) k = front_filed k
+  HasFiled-end (Err StoreFailed) k = prefix_filed k
+  HasFiled-end (Err FileFailed) k = prefix_filed k
+  HasFiled-end (Err Memory) k = prefix_filed k
 
 -- ---- one item
 
@@ -90,27 +90,27 @@ module _ (objects : Contents) (name : ObjectName) (behind : Filing) (now new : F
     by None k = k
     by (Some bytes) k = absurd (cc k.is_missing)
 
-  more_behind : (few all : Filing) (rest : List Change) → all.changes ≡ few.changes ++ rest → FiledFront few now new → FiledFront all now new
+  more_behind : (few all : Filing) (rest : List Change) → all.changes ≡ few.changes ++ rest → FiledPrefix few now new → FiledPrefix all now new
   more_behind few all rest e k = record {
-    front = k.front;
-    is_front = record { rest = k.is_front.rest ++ rest; whole = e ∙ ap (λ l. l ++ rest) k.is_front.whole ∙ append_assoc k.front k.is_front.rest rest };
+    prefix = k.prefix;
+    is_prefix = record { rest = k.is_prefix.rest ++ rest; whole = e ∙ ap (λ l. l ++ rest) k.is_prefix.whole ∙ append_assoc k.prefix k.is_prefix.rest rest };
     files = k.files;
   }
 
   -- a call failed
-  item_front : (item : Item) → FiledFront (item_filed objects name item nothing_filed) now new → FiledFront (item_filed objects name item behind) now new
-  item_front (Bare ref) h = more_behind nothing_filed behind behind.changes refl h
-  item_front (File path) h = by (held objects name) h where
-    by : (found : Option (List ℕ)) → FiledFront (file_then path name found nothing_filed) now new → FiledFront (file_then path name found behind) now new
+  item_prefix : (item : Item) → FiledPrefix (item_filed objects name item nothing_filed) now new → FiledPrefix (item_filed objects name item behind) now new
+  item_prefix (Bare ref) h = more_behind nothing_filed behind behind.changes refl h
+  item_prefix (File path) h = by (held objects name) h where
+    by : (found : Option (List ℕ)) → FiledPrefix (file_then path name found nothing_filed) now new → FiledPrefix (file_then path name found behind) now new
     by None k = more_behind (file_then path name None nothing_filed) (file_then path name None behind) [] refl k
     by (Some bytes) k = more_behind (file_then path name (Some bytes) nothing_filed) (file_then path name (Some bytes) behind) behind.changes refl k
 
   item_stopped : (T U : Type 0) (item : Item) (fault : FilingFault) → FilesValues {T = T} (item_filed objects name item nothing_filed) now new (Err fault)
       → FilesValues {T = U} (item_filed objects name item behind) now new (Err fault)
   item_stopped T U item (Missing name) h = item_missing item name h
-  item_stopped T U item StoreFailed h = item_front item h
-  item_stopped T U item FileFailed h = item_front item h
-  item_stopped T U item Memory h = item_front item h
+  item_stopped T U item StoreFailed h = item_prefix item h
+  item_stopped T U item FileFailed h = item_prefix item h
+  item_stopped T U item Memory h = item_prefix item h
 
 -- ---- the items
 

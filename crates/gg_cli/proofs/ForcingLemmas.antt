@@ -23,7 +23,7 @@ use Rattle.need_eval.specs.Eval.{Ended, Got, Stopped, Stop, Refused, Clash, star
 use Rattle.need_eval.specs.Evaluation.{values_of, by_function}
 use Rattle.need_eval.specs.declared.evaluating.Values.{Values}
 use Rattle.need_eval.specs.Evaluating.{EvaluatesAll}
-use Rattle.need_eval.specs.PartWay.{state_after, IsPartWay, Gives, StopsWith, Stops}
+use Rattle.need_eval.specs.WritePrefix.{state_after, IsWritePrefix, Gives, StopsWith, Stops}
 use Rattle.need_eval.proofs.Growth.{store_is_written}
 use Rattle.sandbox_run.specs.Cards.{card_outcome}
 use Rattle.gg_cli.specs.declared.fault.TopFault.{TopFault}
@@ -34,10 +34,10 @@ use Rattle.gg_cli.specs.Texts.{fault_line, refusal_text, stop_text, value_lines}
 use Rattle.gg_cli.specs.Filing.{Filing, filed}
 use Rattle.gg_cli.specs.Answer.{Answer, forced, handed_out, filed_by, wanted_forced, refusal_status, stop_status}
 use Rattle.gg_cli.specs.Faults.{IsFaultOf, want_fault, filing_fault, fault_status}
-use Rattle.gg_cli.specs.Comes.{Made, Counts, MadeFront, IsWhole, TopCause}
-use Rattle.gg_cli.specs.Ending.{EndsAt, Ends, HasValues, HandsOut, FiledAll, FiledFront, FilesValues, FilingCause, only_store}
+use Rattle.gg_cli.specs.Comes.{Made, Counts, MadePrefix, IsWhole, TopCause}
+use Rattle.gg_cli.specs.Ending.{EndsAt, Ends, HasValues, HandsOut, FiledAll, FiledPrefix, FilesValues, FilingCause, only_store}
 use Rattle.gg_cli.specs.Writing.{Writes}
-use Rattle.gg_cli.proofs.EndingLemmas.{AppendsFront-nil, AppendsFront-whole}
+use Rattle.gg_cli.proofs.EndingLemmas.{AppendsPrefix-nil, AppendsPrefix-whole}
 
 -- ---- evaluation
 
@@ -72,11 +72,11 @@ module _ (e : Ended (List ObjectName)) (before after : Store) (law : (state_afte
       record { last = gives.last; got = gives.got; store = gives.store; writes = gives.store ∙ kept }
 
   module _ (items : List Item) (files : Files) (told : Option (List ℕ)) where
-    -- a front of its writes is a front of the answer's
-    made_front : IsPartWay (start before) e after → MadeFront (forced items e) (only_store before after files told)
-    made_front h = inl (record {
-      front = h.front;
-      is_front = record { rest = h.others; whole = forced_writes items e ∙ h.list };
+    -- a prefix of its writes is a prefix of the answer's
+    made_prefix : IsWritePrefix (start before) e after → MadePrefix (forced items e) (only_store before after files told)
+    made_prefix h = inl (record {
+      prefix = h.prefix;
+      is_prefix = record { rest = h.others; whole = forced_writes items e ∙ h.list };
       after = h.kept;
       files = refl;
     })
@@ -94,9 +94,9 @@ module _ (e : Ended (List ObjectName)) (before after : Store) (law : (state_afte
     ends_at : (fault : EvalFault) (top : TopFault) → Stops (start before) e after fault → IsFaultOf fault top → EndsAt (forced items e) (only_store before after files told) top
     ends_at (faults.Refused refusal) top h is = rw is (refused_ends _ _ refusal (stopped_whole (Refused refusal) h) (stopped_line (Refused refusal) h))
     ends_at (faults.Clash name found fresh) top h is = rw is (record { comes = stopped_whole (Clash name found fresh) h; line = stopped_line (Clash name found fresh) h })
-    ends_at faults.StoreFailed top h is = rw is (record { comes = record { front = made_front h; no_text = Appends-nil told }; line = refl })
+    ends_at faults.StoreFailed top h is = rw is (record { comes = record { prefix = made_prefix h; no_text = Appends-nil told }; line = refl })
     ends_at faults.RunFailed top h is = absurd is
-    ends_at faults.Memory top h is = rw is (record { comes = record { front = made_front h; text = AppendsFront-nil told _ }; line = refl })
+    ends_at faults.Memory top h is = rw is (record { comes = record { prefix = made_prefix h; text = AppendsPrefix-nil told _ }; line = refl })
 
 module _ (budget : ℕ) (refs : List Ref) (before after : Store) where
   -- `evaluate` gave values
@@ -117,19 +117,19 @@ handed before after files_before files_after out_before out_after =
     record { before = before; after = after; files_before = files_before; files_after = files_after; out_before = out_before; out_after = out_after }
 
 module _ (writes : List Write) (text : List ℕ) (before after : Store) (made : after ≡ written before writes) (files_before files_after : Files) (told : Option (List ℕ)) where
-  filing_front : (filing : Filing) (missing : Option ObjectName) → FiledFront filing files_before files_after
-      → MadeFront (filed_by writes filing.changes text missing) (handed before after files_before files_after told told)
-  filing_front filing None h = inr (record { after = made; front = h.front; is_front = h.is_front; files = h.files })
-  filing_front filing (Some name) h = inr (record { after = made; front = h.front; is_front = h.is_front; files = h.files })
+  filing_prefix : (filing : Filing) (missing : Option ObjectName) → FiledPrefix filing files_before files_after
+      → MadePrefix (filed_by writes filing.changes text missing) (handed before after files_before files_after told told)
+  filing_prefix filing None h = inr (record { after = made; prefix = h.prefix; is_prefix = h.is_prefix; files = h.files })
+  filing_prefix filing (Some name) h = inr (record { after = made; prefix = h.prefix; is_prefix = h.is_prefix; files = h.files })
 
   -- the values didn't all go to their files
   pub filing_ends : (T : Type 0) (filing : Filing) (fault : FilingFault) → FilesValues {T = T} filing files_before files_after (Err fault)
       → EndsAt (filed_by writes filing.changes text filing.missing) (handed before after files_before files_after told told) (filing_fault fault)
   filing_ends T filing (filings.Missing name) h =
       rw h.is_missing (record { comes = record { is_status = refl; all = record { after = made; files = h.files }; text = Appends-nil told }; line = refl })
-  filing_ends T filing filings.StoreFailed h = record { comes = record { front = filing_front filing filing.missing h; no_text = Appends-nil told }; line = refl }
-  filing_ends T filing filings.FileFailed h = record { comes = record { front = filing_front filing filing.missing h; no_text = Appends-nil told }; line = refl }
-  filing_ends T filing filings.Memory h = record { comes = record { front = filing_front filing filing.missing h; text = AppendsFront-nil told _ }; line = refl }
+  filing_ends T filing filings.StoreFailed h = record { comes = record { prefix = filing_prefix filing filing.missing h; no_text = Appends-nil told }; line = refl }
+  filing_ends T filing filings.FileFailed h = record { comes = record { prefix = filing_prefix filing filing.missing h; no_text = Appends-nil told }; line = refl }
+  filing_ends T filing filings.Memory h = record { comes = record { prefix = filing_prefix filing filing.missing h; text = AppendsPrefix-nil told _ }; line = refl }
 
 module _ (writes : List Write) (text : List ℕ) (before after : Store) (made : after ≡ written before writes) (files_before files_after : Files) (b c : Option (List ℕ)) (f g : ℕ)
     (filing : Filing) (all : FiledAll filing None files_before files_after) where
@@ -137,15 +137,15 @@ module _ (writes : List Write) (text : List ℕ) (before after : Store) (made : 
   pub printed_done : {T : Type 0} (v : T) → Writes text b c f g (Ok v) → Ends {T = T} (filed_by writes filing.changes text filing.missing) (handed before after files_before files_after b c) (Ok v)
   printed_done v h = rw all.is_missing (record { is_status = refl; all = record { after = made; files = all.files }; text = h.whole })
 
-  -- or a front of it
+  -- or a prefix of it
   pub printed_failed : (T : Type 0) (e : Trouble) → Writes {T = T} text b c f g (Err e) → EndsAt (filed_by writes filing.changes text filing.missing) (handed before after files_before files_after b c) tops.OutputFailed
-  printed_failed T e h = rw all.is_missing (record { comes = record { done = refl; all = record { after = made; files = all.files }; text = h.front }; line = refl })
+  printed_failed T e h = rw all.is_missing (record { comes = record { done = refl; all = record { after = made; files = all.files }; text = h.prefix }; line = refl })
 
   pub printed_part : (T : Type 0) (e : Trouble) → Writes {T = T} text b c f g (Err e) → EndsAt (filed_by writes filing.changes text filing.missing) (handed before after files_before files_after b c) tops.Memory
   printed_part T e h = rw all.is_missing (record {
     comes = record {
-      front = inr (record { after = made; front = filing.changes; is_front = record { rest = []; whole = sym (append-nil filing.changes) }; files = all.files });
-      text = h.front;
+      prefix = inr (record { after = made; prefix = filing.changes; is_prefix = record { rest = []; whole = sym (append-nil filing.changes) }; files = all.files });
+      text = h.prefix;
     };
     line = refl;
   })
@@ -154,14 +154,14 @@ module _ (writes : List Write) (text : List ℕ) (before after : Store) (made : 
 
 module _ (budget : ℕ) (items : List Item) (store : Store) (files files_after : Files) (same : files_after ≡ files) (told : Option (List ℕ)) (found : Result (List Ref) FileRefusal) where
   -- nothing was done yet
-  untouched : MadeFront (wanted_forced budget items store found) (handed store store files files_after told told)
-  untouched = inl (record { front = []; is_front = record { rest = (wanted_forced budget items store found).writes; whole = refl }; after = refl; files = same })
+  untouched : MadePrefix (wanted_forced budget items store found) (handed store store files files_after told told)
+  untouched = inl (record { prefix = []; is_prefix = record { rest = (wanted_forced budget items store found).writes; whole = refl }; after = refl; files = same })
 
   -- an item was refused, or the tree failed
   pub want_ends : (fault : WantFault) → Answers {T = List Ref} found (Err fault) → EndsAt (wanted_forced budget items store found) (handed store store files files_after told told) (want_fault fault)
   want_ends (wants.Refused refusal) h = rw h (record { comes = record { is_status = refl; all = record { after = refl; files = same }; text = Appends-nil told }; line = refl })
-  want_ends wants.Failed h = record { comes = record { front = untouched; no_text = Appends-nil told }; line = refl }
-  want_ends wants.Memory h = record { comes = record { front = untouched; text = AppendsFront-nil told _ }; line = refl }
+  want_ends wants.Failed h = record { comes = record { prefix = untouched; no_text = Appends-nil told }; line = refl }
+  want_ends wants.Memory h = record { comes = record { prefix = untouched; text = AppendsPrefix-nil told _ }; line = refl }
 
 module _ (budget : ℕ) (items : List Item) (before now : Store) (files files_after : Files) (same : files_after ≡ files) (refs : List Ref) (found : Result (List Ref) FileRefusal) (is : found ≡ Ok refs) where
   -- the evaluation ended at a fault

@@ -21,7 +21,7 @@ pub record Printed (text left : List ℕ) (before after : Option (List ℕ)) (fa
 Printed-part : {T : Type 0} {text left : List ℕ} {b m : Option (List ℕ)} {f g : ℕ} (v : T) (h : Printed text left b m f g) → Writes h.part b m f g (Ok v)
 Printed-part v h = record {
   whole = h.grown;
-  front = record { front = h.part; is_front = record { rest = []; whole = sym (append-nil h.part) }; grown = h.grown };
+  prefix = record { prefix = h.part; is_prefix = record { rest = []; whole = sym (append-nil h.part) }; grown = h.grown };
   cause = record { later = h.later; failed = λ failed. cc };
 }
 

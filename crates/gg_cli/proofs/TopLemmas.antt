@@ -2,7 +2,7 @@
 use Rattle.std.proofs.Common.{◌≡◌, ℕ, List, Some, None, inl, inr, refl, sym, ap, subst}
 use Rattle.std.specs.Prelude.{Option}
 use Rattle.std.proofs.KnownBytes.{Appends-nil}
-use Rattle.object_name.specs.Streams.{AppendsFront}
+use Rattle.object_name.specs.Streams.{AppendsPrefix}
 use Rattle.blob_store.specs.Store.{Store}
 use Rattle.file_tree.specs.Files.{Files}
 use Rattle.need_eval.specs.declared.fault.Refusal.TheVariants as refusals
@@ -14,9 +14,9 @@ use Rattle.gg_cli.specs.Words.{command_of}
 use Rattle.gg_cli.specs.Texts.{fault_line}
 use Rattle.gg_cli.specs.Answer.{Answer, answer_of, answer_of_command}
 use Rattle.gg_cli.specs.Faults.{fault_status, fault_text}
-use Rattle.gg_cli.specs.Comes.{Made, Comes, Says, SaysWhole, SaysFront, status_line}
+use Rattle.gg_cli.specs.Comes.{Made, Comes, Says, SaysWhole, SaysPrefix, status_line}
 use Rattle.gg_cli.specs.Ending.{EndsAt, Speaks, only_store}
-use Rattle.gg_cli.proofs.EndingLemmas.{AppendsFront-whole, Comes-memory}
+use Rattle.gg_cli.proofs.EndingLemmas.{AppendsPrefix-whole, Comes-memory}
 
 -- ---- the answer, by the words
 
@@ -36,35 +36,35 @@ module _ (a : Answer) (m : Made) (fault : TopFault) (status : Status) (b c : Opt
   top_comes (inl h) = rw h.0 ends.comes
   top_comes (inr h) = rw h.0 (Comes-memory a m (fault_status fault) ends.comes)
 
-  -- a front of the fault's line is one of a line that a fault prints
-  fault_front : AppendsFront b c (fault_line (fault_text fault)) → SaysFront a b c
-  fault_front h = record { line = fault_line (fault_text fault); is_line = (fault_status fault, sym ends.line); front = h }
+  -- a prefix of the fault's line is one of a line that a fault prints
+  fault_prefix : AppendsPrefix b c (fault_line (fault_text fault)) → SaysPrefix a b c
+  fault_prefix h = record { line = fault_line (fault_text fault); is_line = (fault_status fault, sym ends.line); prefix = h }
 
   -- a line that is said whole, or cut short
-  said_front : SaysWhole (fault_line (fault_text fault)) b c f g → SaysFront a b c
-  said_front (inl h) = fault_front (AppendsFront-whole b c _ h)
-  said_front (inr h) = fault_front h.0
+  said_prefix : SaysWhole (fault_line (fault_text fault)) b c f g → SaysPrefix a b c
+  said_prefix (inl h) = fault_prefix (AppendsPrefix-whole b c _ h)
+  said_prefix (inr h) = fault_prefix h.0
 
   said_whole : SaysWhole (fault_line (fault_text fault)) b c f g → SaysWhole (status_line a (fault_status fault)) b c f g
   said_whole h = subst (λ line. SaysWhole line b c f g) (sym ends.line) h
 
 -- a fault's line is what its status says
-fault_says : (a : Answer) (fault : TopFault) (b c : Option (List ℕ)) (f g : ℕ) → SaysFront a b c → SaysWhole (status_line a (fault_status fault)) b c f g → Says a (fault_status fault) b c f g
-fault_says a tops.Usage b c f g front whole = whole
-fault_says a (tops.FileRefused refusal) b c f g front whole = whole
-fault_says a (tops.Refused (refusals.Missing name)) b c f g front whole = whole
-fault_says a (tops.Refused (refusals.BadThunk name)) b c f g front whole = whole
-fault_says a (tops.Refused (refusals.NoOutput name index)) b c f g front whole = whole
-fault_says a (tops.Refused (refusals.Spent name budget)) b c f g front whole = whole
-fault_says a (tops.Refused (refusals.TooBig name bytes)) b c f g front whole = whole
-fault_says a (tops.Refused (refusals.FunctionFailed name status)) b c f g front whole = whole
-fault_says a (tops.Clash name) b c f g front whole = whole
-fault_says a tops.StoreFailed b c f g front whole = whole
-fault_says a tops.FileFailed b c f g front whole = whole
-fault_says a tops.OutputFailed b c f g front whole = whole
-fault_says a tops.Memory b c f g front whole = front
+fault_says : (a : Answer) (fault : TopFault) (b c : Option (List ℕ)) (f g : ℕ) → SaysPrefix a b c → SaysWhole (status_line a (fault_status fault)) b c f g → Says a (fault_status fault) b c f g
+fault_says a tops.Usage b c f g prefix whole = whole
+fault_says a (tops.FileRefused refusal) b c f g prefix whole = whole
+fault_says a (tops.Refused (refusals.Missing name)) b c f g prefix whole = whole
+fault_says a (tops.Refused (refusals.BadThunk name)) b c f g prefix whole = whole
+fault_says a (tops.Refused (refusals.NoOutput name index)) b c f g prefix whole = whole
+fault_says a (tops.Refused (refusals.Spent name budget)) b c f g prefix whole = whole
+fault_says a (tops.Refused (refusals.TooBig name bytes)) b c f g prefix whole = whole
+fault_says a (tops.Refused (refusals.FunctionFailed name status)) b c f g prefix whole = whole
+fault_says a (tops.Clash name) b c f g prefix whole = whole
+fault_says a tops.StoreFailed b c f g prefix whole = whole
+fault_says a tops.FileFailed b c f g prefix whole = whole
+fault_says a tops.OutputFailed b c f g prefix whole = whole
+fault_says a tops.Memory b c f g prefix whole = prefix
 
 pub top_says : (a : Answer) (m : Made) (fault : TopFault) (status : Status) (b c : Option (List ℕ)) (f g : ℕ) → EndsAt a m fault → Speaks fault status b c f g → Says a status b c f g
 top_says a m fault status b c f g ends (inl h) =
-    rw h.0 (fault_says a fault b c f g (said_front a m fault status b c f g ends h.1) (said_whole a m fault status b c f g ends h.1))
-top_says a m fault status b c f g ends (inr h) = rw h.0 (fault_front a m fault status b c f g ends h.1)
+    rw h.0 (fault_says a fault b c f g (said_prefix a m fault status b c f g ends h.1) (said_whole a m fault status b c f g ends h.1))
+top_says a m fault status b c f g ends (inr h) = rw h.0 (fault_prefix a m fault status b c f g ends h.1)

@@ -6,23 +6,23 @@ use Rattle.std.proofs.KnownBytes.{Appends-trans}
 use Rattle.object_name.specs.declared.trouble.Trouble.{Trouble}
 use Rattle.object_name.specs.declared.trouble.Trouble.TheVariants.{Failed, Memory}
 use Rattle.object_name.specs.Causes.{HasCause}
-use Rattle.object_name.specs.Streams.{AppendsFront}
+use Rattle.object_name.specs.Streams.{AppendsPrefix}
 use Rattle.gg_cli.specs.Writing.{Writes}
 
--- a front of a text is a front of a longer one
-pub AppendsFront-more : (b m : Option (List ℕ)) (x y : List ℕ) → AppendsFront b m x → AppendsFront b m (x ++ y)
-AppendsFront-more b m x y h = record {
-  front = h.front;
-  is_front = record { rest = h.is_front.rest ++ y; whole = ap (λ l. l ++ y) h.is_front.whole ∙ append_assoc h.front h.is_front.rest y };
+-- a prefix of a text is a prefix of a longer one
+pub AppendsPrefix-more : (b m : Option (List ℕ)) (x y : List ℕ) → AppendsPrefix b m x → AppendsPrefix b m (x ++ y)
+AppendsPrefix-more b m x y h = record {
+  prefix = h.prefix;
+  is_prefix = record { rest = h.is_prefix.rest ++ y; whole = ap (λ l. l ++ y) h.is_prefix.whole ∙ append_assoc h.prefix h.is_prefix.rest y };
   grown = h.grown;
 }
 
--- a front behind a whole text
-pub AppendsFront-after : (b m a : Option (List ℕ)) (x y : List ℕ) → Appends b m x → AppendsFront m a y → AppendsFront b a (x ++ y)
-AppendsFront-after b m a x y first h = record {
-  front = x ++ h.front;
-  is_front = record { rest = h.is_front.rest; whole = ap (λ l. x ++ l) h.is_front.whole ∙ sym (append_assoc x h.front h.is_front.rest) };
-  grown = Appends-trans b m a x h.front first h.grown;
+-- a prefix behind a whole text
+pub AppendsPrefix-after : (b m a : Option (List ℕ)) (x y : List ℕ) → Appends b m x → AppendsPrefix m a y → AppendsPrefix b a (x ++ y)
+AppendsPrefix-after b m a x y first h = record {
+  prefix = x ++ h.prefix;
+  is_prefix = record { rest = h.is_prefix.rest; whole = ap (λ l. x ++ l) h.is_prefix.whole ∙ sym (append_assoc x h.prefix h.is_prefix.rest) };
+  grown = Appends-trans b m a x h.prefix first h.grown;
 }
 
 -- a whole text behind a whole text
@@ -37,7 +37,7 @@ Writes-then {x = x} {y = y} {b = b} {m = m} {a = a} {r = r} first is_ok second =
     let whole = (rw is_ok at first).whole in
     record {
       whole = whole_after b m a x y r whole second.whole;
-      front = AppendsFront-after b m a x y whole second.front;
+      prefix = AppendsPrefix-after b m a x y whole second.prefix;
       cause = record { later = omega (arith, first.cause.later, second.cause.later); failed = λ failed. omega (arith, first.cause.later, second.cause.failed failed) };
     }
 
@@ -56,6 +56,6 @@ pub Writes-stop : {T U : Type 0} {x : List ℕ} {b m : Option (List ℕ)} {f g :
     → Writes x b m f g q → q ≡ Err e → IsErr r × IsErrAnd r (λ d. d ≡ e) → Writes (x ++ y) b m f g r
 Writes-stop {x = x} {b = b} {m = m} {f = f} {g = g} {e = e} {r = r} y h was is = rw (handed_on r e is.1) (record {
   whole = tt;
-  front = AppendsFront-more b m x y h.front;
+  prefix = AppendsPrefix-more b m x y h.prefix;
   cause = Refused-cause f g e (rw was at h).cause;
 })

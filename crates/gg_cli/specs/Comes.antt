@@ -2,7 +2,7 @@
 use Rattle.std.specs.Prelude.{◌≡◌, ◌⊎◌, ℕ, List, [], Option}
 use Rattle.std.specs.Io.KnownBytes.{Appends}
 use Rattle.object_name.specs.Causes.{Rose, RoseBy}
-use Rattle.object_name.specs.Streams.{IsFront, AppendsFront}
+use Rattle.object_name.specs.Streams.{IsPrefix, AppendsPrefix}
 use Rattle.blob_store.specs.Store.{Store, Write, written}
 use Rattle.file_tree.specs.Files.{Files, Change, changed}
 use Rattle.gg_cli.specs.declared.status.Status.{Status}
@@ -19,23 +19,23 @@ pub record Made : Type 0 where
   pub out_before : Option (List ℕ)
   pub out_after : Option (List ℕ)
 
--- a front of the answer's writes was made, and no file was changed
+-- a prefix of the answer's writes was made, and no file was changed
 pub record MadeWrites (a : Answer) (m : Made) : Type 0 where
-  pub front : List Write
-  pub is_front : IsFront front a.writes
-  pub after : m.after ≡ written m.before front
+  pub prefix : List Write
+  pub is_prefix : IsPrefix prefix a.writes
+  pub after : m.after ≡ written m.before prefix
   pub files : m.files_after ≡ m.files_before
 
--- all of the answer's writes were made, and a front of its changes of files
+-- all of the answer's writes were made, and a prefix of its changes of files
 pub record MadeChanges (a : Answer) (m : Made) : Type 0 where
   pub after : m.after ≡ written m.before a.writes
-  pub front : List Change
-  pub is_front : IsFront front a.changes
-  pub files : m.files_after ≡ changed m.files_before front
+  pub prefix : List Change
+  pub is_prefix : IsPrefix prefix a.changes
+  pub files : m.files_after ≡ changed m.files_before prefix
 
--- a front of all that the answer does was made
-abbrev pub MadeFront : Answer → Made → Type 0
-MadeFront a m = MadeWrites a m ⊎ MadeChanges a m
+-- a prefix of all that the answer does was made
+abbrev pub MadePrefix : Answer → Made → Type 0
+MadePrefix a m = MadeWrites a m ⊎ MadeChanges a m
 
 -- all that the answer does was made
 pub record MadeAll (a : Answer) (m : Made) : Type 0 where
@@ -48,21 +48,21 @@ pub record IsWhole (a : Answer) (m : Made) (status : Status) : Type 0 where
   pub all : MadeAll a m
   pub text : Appends m.out_before m.out_after a.text
 
--- a fault of the keeper or the tree: a front of what is done, and no text
+-- a fault of the keeper or the tree: a prefix of what is done, and no text
 pub record IsCallFault (a : Answer) (m : Made) : Type 0 where
-  pub front : MadeFront a m
+  pub prefix : MadePrefix a m
   pub no_text : Appends m.out_before m.out_after []
 
--- a fault of the output: all that an answer does that is done, and a front of its text
+-- a fault of the output: all that an answer does that is done, and a prefix of its text
 pub record IsOutFault (a : Answer) (m : Made) : Type 0 where
   pub done : a.status ≡ Done
   pub all : MadeAll a m
-  pub text : AppendsFront m.out_before m.out_after a.text
+  pub text : AppendsPrefix m.out_before m.out_after a.text
 
--- want of memory: a front of what is done and a front of the text
+-- want of memory: a prefix of what is done and a prefix of the text
 pub record IsMemory (a : Answer) (m : Made) : Type 0 where
-  pub front : MadeFront a m
-  pub text : AppendsFront m.out_before m.out_after a.text
+  pub prefix : MadePrefix a m
+  pub text : AppendsPrefix m.out_before m.out_after a.text
 
 -- the status comes so: but for the three faults and want of memory, each is the answer's, and comes with all of it
 abbrev pub Comes : Answer → Made → Status → Type 0
@@ -84,21 +84,21 @@ status_line a status = a.line
 abbrev pub IsFaultLine : Answer → List ℕ → Type 0
 IsFaultLine a line = (status : Status) × (line ≡ status_line a status)
 
--- want of memory: a front of one line that a fault prints
-pub record SaysFront (a : Answer) (before after : Option (List ℕ)) : Type 0 where
+-- want of memory: a prefix of one line that a fault prints
+pub record SaysPrefix (a : Answer) (before after : Option (List ℕ)) : Type 0 where
   pub line : List ℕ
   pub is_line : IsFaultLine a line
-  pub front : AppendsFront before after line
+  pub prefix : AppendsPrefix before after line
 
 -- the line, cut short only where the count of the fault sink rose
 abbrev pub SaysWhole : List ℕ → Option (List ℕ) → Option (List ℕ) → ℕ → ℕ → Type 0
 SaysWhole line before after faults_before faults_after =
-    Appends before after line ⊎ (AppendsFront before after line × Rose faults_before faults_after)
+    Appends before after line ⊎ (AppendsPrefix before after line × Rose faults_before faults_after)
 
 -- what was said on the fault sink, by the status
 abbrev pub Says : Answer → Status → Option (List ℕ) → Option (List ℕ) → ℕ → ℕ → Type 0
 Says a Done before after faults_before faults_after = Appends before after []
-Says a Memory before after faults_before faults_after = SaysFront a before after
+Says a Memory before after faults_before faults_after = SaysPrefix a before after
 Says a status before after faults_before faults_after = SaysWhole (status_line a status) before after faults_before faults_after
 
 -- the counts of faults before a call and after it: the keeper's, the tree's and the output's

@@ -2,7 +2,7 @@
 use Rattle.std.specs.Prelude.{◌≡◌, ◌⊎◌, ℕ, List, Option, Some, None, Result, Ok, Err}
 use Rattle.object_name.specs.Name.{ObjectName}
 use Rattle.object_name.specs.Causes.{RoseBy}
-use Rattle.object_name.specs.Streams.{IsFront, AppendsFront}
+use Rattle.object_name.specs.Streams.{IsPrefix, AppendsPrefix}
 use Rattle.blob_store.specs.Store.{Store, Write, written}
 use Rattle.file_tree.specs.Files.{Files, Change, changed}
 use Rattle.file_tree.specs.declared.item.Item.{Item}
@@ -53,11 +53,11 @@ abbrev pub Values : Ended (List ObjectName) → Store → Store → Result (List
 Values e before after (Ok names) = HasValues e names before after
 Values e before after (Err fault) = (items : List Item) (files : Files) (told : Option (List ℕ)) → EndsAt (forced items e) (only_store before after files told) fault
 
--- a front of the changes was made
-pub record FiledFront (filing : Filing) (before after : Files) : Type 0 where
-  pub front : List Change
-  pub is_front : IsFront front filing.changes
-  pub files : after ≡ changed before front
+-- a prefix of the changes was made
+pub record FiledPrefix (filing : Filing) (before after : Files) : Type 0 where
+  pub prefix : List Change
+  pub is_prefix : IsPrefix prefix filing.changes
+  pub files : after ≡ changed before prefix
 
 -- the changes were made, and no value was missing, or this one
 pub record FiledAll (filing : Filing) (missing : Option ObjectName) (before after : Files) : Type 0 where
@@ -68,9 +68,9 @@ pub record FiledAll (filing : Filing) (missing : Option ObjectName) (before afte
 abbrev pub FilesValues : {T : Type 0} → Filing → Files → Files → Result T FilingFault → Type 0
 FilesValues filing before after (Ok v) = FiledAll filing None before after
 FilesValues filing before after (Err (filings.Missing name)) = FiledAll filing (Some name) before after
-FilesValues filing before after (Err filings.StoreFailed) = FiledFront filing before after
-FilesValues filing before after (Err filings.FileFailed) = FiledFront filing before after
-FilesValues filing before after (Err filings.Memory) = FiledFront filing before after
+FilesValues filing before after (Err filings.StoreFailed) = FiledPrefix filing before after
+FilesValues filing before after (Err filings.FileFailed) = FiledPrefix filing before after
+FilesValues filing before after (Err filings.Memory) = FiledPrefix filing before after
 
 -- the keeper or the tree failed only where its count rose by more than the retries
 abbrev pub FilingCause : {T : Type 0} → ℕ → ℕ → ℕ → ℕ → ℕ → Result T FilingFault → Type 0
@@ -87,8 +87,8 @@ HandsOut names items now after files_before files_after out_before out_after res
     Ends (handed_out writes names items (filed now.objects names items))
     (record { before = before; after = after; files_before = files_before; files_after = files_after; out_before = out_before; out_after = out_after }) result
 
--- the status and the line of the fault, or want of memory and a front of the line
+-- the status and the line of the fault, or want of memory and a prefix of the line
 abbrev pub Speaks : TopFault → Status → Option (List ℕ) → Option (List ℕ) → ℕ → ℕ → Type 0
 Speaks fault status before after faults_before faults_after =
     ((status ≡ fault_status fault) × SaysWhole (fault_line (fault_text fault)) before after faults_before faults_after)
-    ⊎ ((status ≡ Memory) × AppendsFront before after (fault_line (fault_text fault)))
+    ⊎ ((status ≡ Memory) × AppendsPrefix before after (fault_line (fault_text fault)))

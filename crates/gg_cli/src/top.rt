@@ -107,7 +107,7 @@ pub fn gg_top<K: Keeper, T: Tree, O: Sink, E: Sink>(
     out: &mut O,
     err: &mut E,
 ) -> Status
-    // Where the keeper and the tree tell, all is as the answer by the definition has it, or a fault stopped it after a front.
+    // Where the keeper and the tree tell, all is as the answer by the definition has it, or a fault stopped it after a prefix.
     ensures exact { K.tells → T.tells → Comes (answer_of (map string_bytes words.now) (K.store keeper.old) (T.files tree.old))
         (record {
           before = K.store keeper.old;

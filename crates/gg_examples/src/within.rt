@@ -70,8 +70,8 @@ fn budget_is_shared(rt: HostRuntime) -> Result<(), Fail> {
 
 /// Adds the two parts of a text as values, of which the first is too short for a thunk.
 fn add_parts(objects: &mut Objects, text: &[u8]) -> Result<(Item, Item), Fail> {
-    let (front, back) = text.split_at(text.len().min(6));
-    Ok((objects.value(front)?, objects.value(back)?))
+    let (prefix, back) = text.split_at(text.len().min(6));
+    Ok((objects.value(prefix)?, objects.value(back)?))
 }
 
 /// The text of the `cat` of `ab`, no bytes and `c`, whose objects are added, but not the text.
@@ -87,8 +87,8 @@ fn text_of_three(objects: &mut Objects) -> Result<Bytes, Fail> {
 fn add_yielding(objects: &mut Objects) -> Result<(Name, Name), Fail> {
     let text = text_of_three(objects)?;
     let inner = name_of(text.as_slice())?;
-    let (front, back) = add_parts(objects, text.as_slice())?;
-    let outer = objects.cat(&[front, back])?;
+    let (prefix, back) = add_parts(objects, text.as_slice())?;
+    let outer = objects.cat(&[prefix, back])?;
     Ok((outer, inner))
 }
 
@@ -133,9 +133,9 @@ fn steps_to_an_answer(rt: HostRuntime) -> Result<(), Fail> {
 fn function_of_another_thunk(rt: HostRuntime) -> Result<(), Fail> {
     let alloc = rt.alloc();
     let mut objects = Objects::new(alloc);
-    let front = objects.value(b"gg-tool ")?;
+    let prefix = objects.value(b"gg-tool ")?;
     let back = objects.value(b"cat\n")?;
-    let function = objects.cat(&[front, back])?;
+    let function = objects.cat(&[prefix, back])?;
     let input = objects.value(b"abc")?;
     let thunk = objects.thunk(&Item::Out(function, 0), &[input])?;
     let item = Item::Out(thunk, 0);

@@ -114,9 +114,9 @@ module _ (files : Files) (folders : List (List ℕ)) (source : List ℕ) where
         covered_more : (place : ℕ) (met now : List (List ℕ)) → Covered place met → place < length met → Onward files folders source met now
             → Covers (include_targets (bytes_at files (get_or met place []))) (get_or met place []) now → Covered (place + 1) now
         covered_more place met now covered low onward covers path among =
-            by_parts (among_cases (take place met) (get_or met place [] ∷ []) path (subst (λ paths. IsTrue (is_among paths path)) front among)) where
-              front : take (place + 1) now ≡ take place met ++ get_or met place [] ∷ []
-              front = let long = length-append met onward.more in
+            by_parts (among_cases (take place met) (get_or met place [] ∷ []) path (subst (λ paths. IsTrue (is_among paths path)) prefix among)) where
+              prefix : take (place + 1) now ≡ take place met ++ get_or met place [] ∷ []
+              prefix = let long = length-append met onward.more in
                   ap (take (place + 1)) onward.is ∙ (take_more (met ++ onward.more) place [] (omega (arith, low, long))
                   ∙ (ap (λ paths. paths ++ get_or (met ++ onward.more) place [] ∷ []) (take-append-le place met onward.more (omega (arith, low)))
                   ∙ ap (λ path. take place met ++ path ∷ []) (get_or_append_left met onward.more [] place low)))

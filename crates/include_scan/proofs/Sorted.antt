@@ -11,7 +11,7 @@ use Rattle.std.proofs.lemmas.Cmp.{nat_list_cmp_total}
 use Rattle.std.proofs.lemmas.Grind.{get_or_tail}
 use Rattle.std.proofs.lemmas.Map.Lookups.{exact_bytes}
 use Rattle.std.proofs.lemmas.Slice.Eq.{bytes_eq-Decides}
-use Rattle.thunk_codec.specs.Thunk.{rises}
+use Rattle.thunk_codec.specs.Thunk.{is_strictly_increasing}
 use Rattle.include_scan.specs.Scanned.{is_among}
 use Rattle.include_scan.specs.Scanning.{IsInOrder}
 
@@ -33,7 +33,7 @@ tail_sorted first paths sorted k d low high =
     ∙ sorted (k + 1) d (omega arith) (omega (arith, high)))
 
 -- sorted paths that differ rise
-pub sorted_rise : (paths : List (List ℕ)) → IsSorted (slice_cmp nat_cmp) paths → IsDistinct bytes_eq paths → rises paths ≡ true
+pub sorted_rise : (paths : List (List ℕ)) → IsSorted (slice_cmp nat_cmp) paths → IsDistinct bytes_eq paths → is_strictly_increasing paths ≡ true
 unfolding IsDistinct
 sorted_rise [] sorted distinct = refl
 sorted_rise (one ∷ []) sorted distinct = refl
@@ -45,7 +45,7 @@ in_order : (met sorted paths : List (List ℕ)) → paths ≡ sorted → IsSorte
     → IsInOrder met paths
 in_order met sorted paths is is_sorted same distinct = record {
   same = λ path. ap (λ paths. is_among paths path) is ∙ same path;
-  rising = ap rises is ∙ sorted_rise sorted is_sorted distinct;
+  rising = ap is_strictly_increasing is ∙ sorted_rise sorted is_sorted distinct;
 }
 
 pub listed_in_order : {E : Type 0} (met sorted : List (List ℕ)) → IsSorted (slice_cmp nat_cmp) sorted → ((path : List ℕ) → is_among sorted path ≡ is_among met path) → IsDistinct bytes_eq sorted

@@ -4,7 +4,7 @@ use Rattle.std.specs.Prelude.{◌≡◌, ℕ, zero, suc, ◌+◌, List, [], ◌�
 use Rattle.std.specs.Option.{is_some}
 use Rattle.object_name.specs.Causes.{RoseBy}
 use Rattle.thunk_codec.specs.Placeholder.{placeholder_of}
-use Rattle.thunk_codec.specs.Thunk.{rises}
+use Rattle.thunk_codec.specs.Thunk.{is_strictly_increasing}
 use Rattle.file_tree.specs.Files.{file_read}
 use Rattle.file_tree.specs.declared.refusal.FileRefusal.{FileRefusal}
 use Rattle.file_tree.specs.declared.refusal.FileRefusal.TheVariants as refusals
@@ -95,7 +95,7 @@ scan_of files folders source = met_file files source [] >>= λ met. gathered fil
 -- the same paths, each once, each before the next byte by byte
 pub record IsInOrder (met : List (List ℕ)) (paths : List (List ℕ)) : Type 0 where
   pub same : (path : List ℕ) → is_among paths path ≡ is_among met path
-  pub rising : rises paths ≡ true
+  pub rising : is_strictly_increasing paths ≡ true
 
 -- the answer is this one with its paths in order, unless a call failed or memory was refused
 abbrev pub Scans : Meeting → Meeting → Type 0

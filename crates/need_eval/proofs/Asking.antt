@@ -18,7 +18,7 @@ use Rattle.need_eval.specs.declared.walker.Walker.{Walker}
 use Rattle.need_eval.specs.Eval.{State, Refused, Stands, Ended, Got, Eval, go_on, ◌>>=◌, give, check, need, step, make_write, note_asked, mark}
 use Rattle.need_eval.specs.Evaluation.{job_of, finished, ask, outputs_of, reduce, values_of, by_list}
 use Rattle.need_eval.specs.Machine.{resume}
-use Rattle.need_eval.specs.PartWay.{state_after}
+use Rattle.need_eval.specs.WritePrefix.{state_after}
 use Rattle.need_eval.specs.Walking.{walking, left, innermost, StandsAt}
 use Rattle.need_eval.proofs.Keeping.{Keeps, IsKept, following, keeps-go_on, keeps-need, keeps-finished, keeps-following, keeps-values_of, keeps-resume}
 

@@ -35,14 +35,14 @@ first-of [] x within is = absurd (omega (arith, within))
 first-of (y ∷ ys) x within is = ap (λ x. x ∷ ys) (sym is)
 
 -- the first of some frames
-abbrev pub front : Frame → List Frame → Frame
-front other [] = other
-front other (inner ∷ outer) = inner
+abbrev pub prefix : Frame → List Frame → Frame
+prefix other [] = other
+prefix other (inner ∷ outer) = inner
 
 -- the innermost thunk by the frames that another way of looking has
 pub innermost-as : (w : Walker) (name : ObjectName) (t : Parts) (inner : Frame) (outer : List Frame) → w.frames.items ≡ inner ∷ outer → IsInnermost w name t → (name ≡ inner.name) × (t ≡ resolved_by inner.thunk w.level.done)
 innermost-as w name t inner outer frames is =
-    let same : is.inner ≡ inner = ap (front is.inner) (sym is.frames ∙ frames) in
+    let same : is.inner ≡ inner = ap (prefix is.inner) (sym is.frames ∙ frames) in
     (is.named ∙ ap (λ (frame : Frame). frame.name) same, is.resolved ∙ ap (λ (frame : Frame). resolved_by frame.thunk w.level.done) same)
 
 -- after the innermost thunk was left the state is the one in which it is reduced

@@ -5,7 +5,7 @@ use Rattle.thunk_codec.specs.declared.job.Job.{Job}
 use Rattle.thunk_codec.specs.declared.job.Outcome.{Outcome}
 use Rattle.need_eval.specs.Eval.{State, Stands, ◌>>=◌, give, need, step, note_asked}
 use Rattle.need_eval.specs.Evaluation.{ask, values_of}
-use Rattle.need_eval.specs.PartWay.{state_after}
+use Rattle.need_eval.specs.WritePrefix.{state_after}
 use Rattle.need_eval.proofs.Keeping.{Keeps, IsKept, keeps-go_on, keeps-need, keeps-values_of}
 
 -- no fewer steps were used, and no more than the budget where it wasn't spent before

@@ -18,7 +18,7 @@ use Rattle.need_eval.specs.declared.walker.Walker.{Walker}
 use Rattle.need_eval.specs.Eval.{State, Ended, Got, Eval, go_on, ◌>>=◌, give, mark}
 use Rattle.need_eval.specs.Evaluation.{finished, reduce}
 use Rattle.need_eval.specs.Machine.{resume}
-use Rattle.need_eval.specs.PartWay.{state_after, IsPartWay, Stops}
+use Rattle.need_eval.specs.WritePrefix.{state_after, IsWritePrefix, Stops}
 use Rattle.need_eval.specs.Putting.{Puts, after_writes}
 use Rattle.need_eval.specs.Walking.{walking, left, reduced_at, innermost, blocked_at, StandsAt, Supplied}
 use Rattle.need_eval.specs.Turning.{IsReady, Leaves}
@@ -26,11 +26,11 @@ use Rattle.need_eval.proofs.Growth.{Grows-stay, resume-grows}
 use Rattle.need_eval.proofs.Stopping.{part_way-unwritten, Stops-earlier}
 use Rattle.need_eval.proofs.Leaving.{Stops-on, turn-leave-faults}
 use Rattle.need_eval.proofs.Turns.{marked, asked_for, turn-leave, reduce-run, marked-reduced}
-use Rattle.need_eval.proofs.ComingOut.{front}
+use Rattle.need_eval.proofs.ComingOut.{prefix}
 
 -- the frames of a walker, seen in another way, are the same
 same-inner : {inner other : Frame} {outer others : List Frame} (w : Walker) → w.frames.items ≡ inner ∷ outer → w.frames.items ≡ other ∷ others → inner ≡ other
-same-inner {inner = inner} w first second = ap (front inner) (sym first ∙ second)
+same-inner {inner = inner} w first second = ap (prefix inner) (sym first ∙ second)
 
 same-outer : {inner other : Frame} {outer others : List Frame} (w : Walker) → w.frames.items ≡ inner ∷ outer → w.frames.items ≡ other ∷ others → outer ≡ others
 same-outer w first second = ap (λ (frames : List Frame). drop 1 frames) (sym first ∙ second)
@@ -50,10 +50,10 @@ leaves-as w after outputs leaves inner outer frames =
       steps = leaves.steps;
     }
 
--- what was put in is a front of all writes
-puts-front : {A : Type 0} (m : Eval A) (x : A) (old now : Store) → Puts m x old now → (s : State) → s.store ≡ old → IsPartWay s (m s) now
-puts-front m x old now puts s same = record {
-  front = puts.made;
+-- what was put in is a prefix of all writes
+puts-prefix : {A : Type 0} (m : Eval A) (x : A) (old now : Store) → Puts m x old now → (s : State) → s.store ≡ old → IsWritePrefix s (m s) now
+puts-prefix m x old now puts s same = record {
+  prefix = puts.made;
   others = [];
   list = ap (λ e. (state_after e).writes) (puts.does s same) ∙ ap (λ writes. s.writes ++ writes) (sym (append-nil puts.made));
   kept = puts.put ∙ ap (λ store. written store puts.made) (sym same);
@@ -64,7 +64,7 @@ pub for-blocked : (standing : Standing) (p : Prepared) (P : Prepared → Type 0)
 for-blocked standing p P is h = subst (λ (standing : Standing). IfSome (blocked_at standing) P) (sym is) h
 
 -- nothing is written
-pub supplies-nothing : (w : Walker) (store : Store) (answer : ℕ → Job → Option Outcome) (writes : List Write) (asked : List Job) → IsPartWay (walking w store writes asked) (left answer w (walking w store writes asked)) store
+pub supplies-nothing : (w : Walker) (store : Store) (answer : ℕ → Job → Option Outcome) (writes : List Write) (asked : List Job) → IsWritePrefix (walking w store writes asked) (left answer w (walking w store writes asked)) store
 supplies-nothing w store answer writes asked =
     let s = walking w store writes asked in
     part_way-unwritten s (left answer w s) store (resume-grows answer w.budget w.frames.items w.level.done w.level.rest.items s) refl
@@ -102,8 +102,8 @@ module _ (w : Walker) (store : Store) (p : Prepared) (outcome : Outcome) (stands
         (Stops-earlier here u (reduce answer stands.inner.name whole here) now fault (Grows-stay here u refl refl) reduced))
 
     -- all is written, and then memory is wanted
-    pub supplies-front : (outputs : List ObjectName) (now : Store) → Puts (finished stands.inner.name whole outcome) outputs store now → IsPartWay here (left answer w here) now
-    supplies-front outputs now puts = supplies-stops now faults.Memory (puts-front (finished stands.inner.name whole outcome) outputs store now puts)
+    pub supplies-prefix : (outputs : List ObjectName) (now : Store) → Puts (finished stands.inner.name whole outcome) outputs store now → IsWritePrefix here (left answer w here) now
+    supplies-prefix outputs now puts = supplies-stops now faults.Memory (puts-prefix (finished stands.inner.name whole outcome) outputs store now puts)
 
     -- all is written, and the thunk is left
     goes : (after : Walker) (outputs : List ObjectName) (now : Store) (puts : Puts (finished stands.inner.name whole outcome) outputs store now) → after.budget ≡ w.budget → Leaves w after outputs → left answer w here ≡ left answer after (walking after now (writes ++ puts.made) (asked ++ p.job ∷ []))

@@ -15,7 +15,7 @@ use Rattle.blob_store.specs.Store.{Write}
 use Rattle.need_eval.specs.declared.fault.Refusal.TheVariants.{NoOutput, Spent}
 use Rattle.need_eval.specs.Eval.{State, Stop, Refused, Stands, Ended, Got, Stopped, Eval, ◌>>=◌, go_on, give, check, need, each, step, make_write, note_asked, mark}
 use Rattle.need_eval.specs.Evaluation.{thunk_at, ask, reduce, count, entered, outputs_at, output_of, passed, value_by, beyond, value_within, value_of}
-use Rattle.need_eval.specs.PartWay.{state_after}
+use Rattle.need_eval.specs.WritePrefix.{state_after}
 use Rattle.need_eval.proofs.Keeping.{Keeps, IsKept, IsMade, keeps-go_on, keeps-need, keeps-check, keeps-thunk_at, keeps-output_of, keeps-value_by}
 
 -- no fewer steps were used
@@ -85,12 +85,12 @@ module _ (answer : ℕ → Job → Option Outcome) (budget : ℕ) where
   counted-same low (Stopped why t) h k counted all = refl
 
   -- two ways to the values of those that are met on the way, which are the same after a step more
-  module _ (f g : Ref → Eval ObjectName) (low : ℕ) (rises : (r : Ref) → Keeps Later (f r)) (same : (r : Ref) (t : State) → low < t.steps → low < budget → f r t ≡ g r t) where
+  module _ (f g : Ref → Eval ObjectName) (low : ℕ) (is_strictly_increasing : (r : Ref) → Keeps Later (f r)) (same : (r : Ref) (t : State) → low < t.steps → low < budget → f r t ≡ g r t) where
     each-same : (refs : List Ref) (s : State) → low < s.steps → low < budget → each f refs s ≡ each g refs s
     each-same [] s above below = refl
     each-same (r ∷ refs) s above below =
         go_on-same (suc low) (f r s) (λ y. each f refs >>= λ ys. give (y ∷ ys)) (λ y. each g refs >>= λ ys. give (y ∷ ys))
-        (let more = rises r s in omega (arith, above, more))
+        (let more = is_strictly_increasing r s in omega (arith, above, more))
         (λ y t later. ap (λ e. go_on e (λ ys. give (y ∷ ys))) (each-same refs t (omega (arith, later)) below))
         ∙ ap (λ e. go_on e (λ y. each g refs >>= λ ys. give (y ∷ ys))) (same r s above below)
 
@@ -111,14 +111,14 @@ module _ (answer : ℕ → Job → Option Outcome) (budget : ℕ) where
     value_by-same (Value name) s later = refl
     value_by-same (Out name index) s later =
         go_on-same low (output_of answer budget f name index s) (λ output. passed answer budget f output.kind output) (λ output. passed answer budget g output.kind output)
-        (let more = keeps-output_of Later Later-kept Later-write Later-mark answer (Later-ask answer) budget (Later-step budget) f rises name index s in omega (arith, later, more))
+        (let more = keeps-output_of Later Later-kept Later-write Later-mark answer (Later-ask answer) budget (Later-step budget) f is_strictly_increasing name index s in omega (arith, later, more))
         (λ output t more. passed-same output.kind output t more)
         ∙ ap (λ e. go_on (go_on e (λ outputs. need (slice_get outputs index) (Refused (NoOutput name index)))) (λ output. passed answer budget g output.kind output)) (outputs_at-same name index (s.reduced name) s later)
 
-  within-rises : (left : ℕ) (r : Ref) → Keeps Later (value_within answer budget left r)
+  within-is_strictly_increasing : (left : ℕ) (r : Ref) → Keeps Later (value_within answer budget left r)
   unfolding value_within
-  within-rises zero = keeps-value_by Later Later-kept Later-write Later-mark answer (Later-ask answer) budget (Later-step budget) (beyond answer budget) (λ r s. omega arith)
-  within-rises (suc left) = keeps-value_by Later Later-kept Later-write Later-mark answer (Later-ask answer) budget (Later-step budget) (value_within answer budget left) (within-rises left)
+  within-is_strictly_increasing zero = keeps-value_by Later Later-kept Later-write Later-mark answer (Later-ask answer) budget (Later-step budget) (beyond answer budget) (λ r s. omega arith)
+  within-is_strictly_increasing (suc left) = keeps-value_by Later Later-kept Later-write Later-mark answer (Later-ask answer) budget (Later-step budget) (value_within answer budget left) (within-is_strictly_increasing left)
 
   -- where no more steps are left than these, one more changes nothing
   within-more : (left : ℕ) (r : Ref) (s : State) → budget ≤ s.steps + left → value_within answer budget left r s ≡ value_within answer budget (suc left) r s
@@ -127,7 +127,7 @@ module _ (answer : ℕ → Job → Option Outcome) (budget : ℕ) where
       value_by-same (beyond answer budget) (value_within answer budget zero) s.steps (λ r t. omega arith)
       (λ r t above below. absurd (omega (arith, enough, below))) r s (omega arith)
   within-more (suc left) r s enough =
-      value_by-same (value_within answer budget left) (value_within answer budget (suc left)) s.steps (within-rises left)
+      value_by-same (value_within answer budget left) (value_within answer budget (suc left)) s.steps (within-is_strictly_increasing left)
       (λ r t above below. within-more left r t (omega (arith, enough, above))) r s (omega arith)
 
   -- the value of a reference, by the values of references

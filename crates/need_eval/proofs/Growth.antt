@@ -10,7 +10,7 @@ use Rattle.need_eval.specs.declared.frame.Frame.{Frame}
 use Rattle.need_eval.specs.Eval.{State, Stands, start, each, need, give, note_asked, mark, ◌>>=◌}
 use Rattle.need_eval.specs.Evaluation.{ask, store_one, outputs_by, finished, reduce, values_of}
 use Rattle.need_eval.specs.Machine.{resume}
-use Rattle.need_eval.specs.PartWay.{state_after}
+use Rattle.need_eval.specs.WritePrefix.{state_after}
 use Rattle.need_eval.proofs.Keeping.{Keeps, IsKept, IsMade, keeps-go_on, keeps-need, keeps-each, keeps-store_one, keeps-outputs_by, keeps-finished, keeps-reduce, keeps-values_of, keeps-resume}
 
 -- some writes were made, and are put into the store

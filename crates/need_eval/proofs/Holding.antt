@@ -9,7 +9,7 @@ use Rattle.blob_store.specs.Store.Write.{Object, Note}
 use Rattle.blob_store.proofs.Stores.{held-put-other}
 use Rattle.need_eval.specs.Eval.{State, Stands, ◌>>=◌, give, need, note_asked}
 use Rattle.need_eval.specs.Evaluation.{ask, values_of}
-use Rattle.need_eval.specs.PartWay.{state_after}
+use Rattle.need_eval.specs.WritePrefix.{state_after}
 use Rattle.need_eval.proofs.Keeping.{Keeps, IsKept, IsMade, keeps-go_on, keeps-need, keeps-values_of}
 
 -- what one store holds the other holds, with the same bytes

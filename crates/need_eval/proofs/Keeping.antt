@@ -23,7 +23,7 @@ use Rattle.need_eval.specs.declared.frame.Frame.{Frame}
 use Rattle.need_eval.specs.Eval.{State, Stop, Refused, Ended, Got, Stopped, Eval, ◌>>=◌, go_on, give, check, need, each, step, make_write, mark}
 use Rattle.need_eval.specs.Evaluation.{object, held_value, thunk_at, input_object, job_of, no_clash, store_one, outputs_by, finished, ask, outputs_of, reduce, count, entered, outputs_at, output_of, passed, value_by, beyond, value_within, value_of, values_of}
 use Rattle.need_eval.specs.Machine.{resume}
-use Rattle.need_eval.specs.PartWay.{state_after}
+use Rattle.need_eval.specs.WritePrefix.{state_after}
 
 -- the relation holds between the state before an evaluation and the state after it
 abbrev pub Keeps : {A : Type 0} → (State → State → Type 0) → Eval A → Type 0

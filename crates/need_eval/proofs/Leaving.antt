@@ -13,7 +13,7 @@ use Rattle.need_eval.specs.declared.frame.Frame.{Frame}
 use Rattle.need_eval.specs.Eval.{State, Refused, Ended, Got, Stopped, Eval, go_on}
 use Rattle.need_eval.specs.Evaluation.{reduce, passed, value_of}
 use Rattle.need_eval.specs.Machine.{resume}
-use Rattle.need_eval.specs.PartWay.{state_after, IsPartWay, Stops}
+use Rattle.need_eval.specs.WritePrefix.{state_after, IsWritePrefix, Stops}
 use Rattle.need_eval.proofs.Keeping.{Keeps, keeps-go_on, keeps-need, keeps-passed, keeps-value_of}
 use Rattle.need_eval.proofs.Growth.{Grows, Grows-kept, Grows-same, Grows-write, Grows-stay, Grows-mark, Grows-ask, resume-grows}
 use Rattle.need_eval.proofs.ReadOnly.{StopsWith-go_on}
@@ -24,16 +24,16 @@ grows-on : {A B : Type 0} (e : Ended A) (f : A → Eval B) → ((x : A) → Keep
 grows-on (Got x t) f all = all x t
 grows-on (Stopped why t) f all = Grows-same t
 
--- a front of what is written is a front of what is written with all that follows
-part_way-on : {A B : Type 0} (s : State) (e : Ended A) (f : A → Eval B) (now : Store) → ((x : A) → Keeps Grows (f x)) → IsPartWay s e now → IsPartWay s (go_on e f) now
+-- a prefix of what is written is a prefix of what is written with all that follows
+part_way-on : {A B : Type 0} (s : State) (e : Ended A) (f : A → Eval B) (now : Store) → ((x : A) → Keeps Grows (f x)) → IsWritePrefix s e now → IsWritePrefix s (go_on e f) now
 part_way-on s e f now all h =
     let more = grows-on e f all in
     record {
-      front = h.front;
+      prefix = h.prefix;
       others = h.others ++ more.made;
       list = more.writes ∙ ap (λ writes. writes ++ more.made) h.list
-          ∙ append_assoc s.writes (h.front ++ h.others) more.made
-          ∙ ap (λ rest. s.writes ++ rest) (append_assoc h.front h.others more.made);
+          ∙ append_assoc s.writes (h.prefix ++ h.others) more.made
+          ∙ ap (λ rest. s.writes ++ rest) (append_assoc h.prefix h.others more.made);
       kept = h.kept;
     }
 

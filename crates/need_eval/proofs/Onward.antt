@@ -18,7 +18,7 @@ use Rattle.need_eval.specs.Eval.{State, Refused, Ended, Got, go_on, need, check,
 use Rattle.need_eval.specs.Evaluation.{object, thunk_at, count}
 use Rattle.need_eval.specs.Machine.{resume}
 use Rattle.need_eval.specs.Pieces.{StopsReading, entry, stepped}
-use Rattle.need_eval.specs.PartWay.{StopsWith}
+use Rattle.need_eval.specs.WritePrefix.{StopsWith}
 use Rattle.need_eval.specs.Walking.{walking, left, reduced_at}
 use Rattle.need_eval.specs.Turning.{IsOutput}
 use Rattle.need_eval.proofs.ReadOnly.{StopsReading-go_on}

@@ -5,7 +5,7 @@ use Rattle.thunk_codec.specs.declared.job.Job.{Job}
 use Rattle.thunk_codec.specs.declared.job.Outcome.{Outcome}
 use Rattle.thunk_codec.specs.Outcome.{Fits}
 use Rattle.need_eval.specs.Evaluation.{by_function, by_list}
-use Rattle.need_eval.specs.PartWay.{AreAnswers}
+use Rattle.need_eval.specs.WritePrefix.{AreAnswers}
 use Rattle.need_eval.specs.Walk.{Answers}
 
 -- from the next place on

@@ -11,7 +11,7 @@ use Rattle.need_eval.specs.declared.fault.EvalFault.{EvalFault}
 use Rattle.need_eval.specs.declared.fault.EvalFault.TheVariants as faults
 use Rattle.need_eval.specs.Eval.{State, Ended, Got, Stopped, Eval, go_on, ◌>>=◌, give, each, make_write}
 use Rattle.need_eval.specs.Evaluation.{store_one, outputs_by, finished}
-use Rattle.need_eval.specs.PartWay.{state_after, IsPartWay, Stops}
+use Rattle.need_eval.specs.WritePrefix.{state_after, IsWritePrefix, Stops}
 use Rattle.need_eval.specs.Putting.{Puts, after_writes}
 use Rattle.need_eval.proofs.Keeping.{Keeps, keeps-then}
 use Rattle.need_eval.proofs.Growth.{Grows, Grows-same, Grows-kept, Grows-write, stores-grow, written-append}
@@ -81,14 +81,14 @@ module _ (outputs : List (List ℕ)) (old now : Store) (i : ℕ) (names : List O
       (Stops-on t (each store_one (output ∷ drop (suc i) outputs) t) (λ more. give (names ++ more)) after fault (λ _ u. Grows-same u)
       (Stops-on t (store_one output t) others after fault all (stops t (put-store s old now so_far.made same so_far.put)))))
 
--- what was stored so far is a front of all writes
-pub ArePut-front : (outputs : List (List ℕ)) (old now : Store) (i : ℕ) (names : List ObjectName) → ArePut outputs old now i names → (s : State) → s.store ≡ old → IsPartWay s (each store_one outputs s) now
-ArePut-front outputs old now i names so_far s same =
+-- what was stored so far is a prefix of all writes
+pub ArePut-prefix : (outputs : List (List ℕ)) (old now : Store) (i : ℕ) (names : List ObjectName) → ArePut outputs old now i names → (s : State) → s.store ≡ old → IsWritePrefix s (each store_one outputs s) now
+ArePut-prefix outputs old now i names so_far s same =
     let t = after_writes s so_far.made in
     let e = go_on (each store_one (drop i outputs) t) (λ more. give (names ++ more)) in
     let rest : Grows t (state_after e) = left_grows t (each store_one (drop i outputs) t) (stores-grow (drop i outputs) t) in
     Stops-earlier s t (each store_one outputs s) now faults.Memory (after_writes-grows s so_far.made)
-    (subst (λ (e : Ended (List ObjectName)). IsPartWay t e now) (sym (so_far.left s same))
+    (subst (λ (e : Ended (List ObjectName)). IsWritePrefix t e now) (sym (so_far.left s same))
     (part_way-unwritten t e now rest (sym (put-store s old now so_far.made same so_far.put))))
   where
     left_grows : (t : State) (e : Ended (List ObjectName)) → Grows t (state_after e) → Grows t (state_after (go_on e (λ more. give (names ++ more))))
@@ -132,15 +132,15 @@ module _ (name resolved : ObjectName) (t : Parts) (outcome : Outcome) (named : r
     }
 
     -- the note was kept or not
-    pub finished-may : (now : Store) → MayWrite between (note_write resolved outputs) now → (s : State) → s.store ≡ old → IsPartWay s (finished name t outcome s) now
+    pub finished-may : (now : Store) → MayWrite between (note_write resolved outputs) now → (s : State) → s.store ≡ old → IsWritePrefix s (finished name t outcome s) now
     finished-may now (inl unchanged) s same = record {
-      front = puts.made;
+      prefix = puts.made;
       others = note_write resolved outputs ∷ [];
       list = ap (λ e. (state_after e).writes) (finished-is s same);
       kept = unchanged ∙ puts.put ∙ ap (λ store. written store puts.made) (sym same);
     }
     finished-may now (inr noted) s same = record {
-      front = puts.made ++ note_write resolved outputs ∷ [];
+      prefix = puts.made ++ note_write resolved outputs ∷ [];
       others = [];
       list = ap (λ e. (state_after e).writes) (finished-is s same) ∙ ap (λ writes. s.writes ++ writes) (sym (append-nil (puts.made ++ note_write resolved outputs ∷ [])));
       kept = noted ∙ ap (λ store. after_write store (note_write resolved outputs)) puts.put ∙ sym (written-append old puts.made (note_write resolved outputs ∷ []))

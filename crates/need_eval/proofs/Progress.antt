@@ -14,7 +14,7 @@ use Rattle.need_eval.specs.declared.walker.Walker.{Walker}
 use Rattle.need_eval.specs.declared.walker.Walked.TheVariants.{Ended as Over}
 use Rattle.need_eval.specs.Eval.{State, Ended, start}
 use Rattle.need_eval.specs.Evaluation.{values_of, by_function, by_list}
-use Rattle.need_eval.specs.PartWay.{state_after, Does, AreAnswers}
+use Rattle.need_eval.specs.WritePrefix.{state_after, Does, AreAnswers}
 use Rattle.need_eval.specs.Pieces.{RunCause}
 use Rattle.need_eval.specs.Walking.{walking, left, IsFresh, GoesOn, StandsAt, Supplied, Advances, Supplies}
 use Rattle.need_eval.specs.Walk.{Answers}

@@ -12,7 +12,7 @@ use Rattle.need_eval.specs.declared.fault.EvalFault.{EvalFault}
 use Rattle.need_eval.specs.declared.fault.EvalFault.TheVariants as faults
 use Rattle.need_eval.specs.Eval.{State, Stop, Refused, Ended, Got, Eval, go_on, ◌>>=◌, give, need, each}
 use Rattle.need_eval.specs.Evaluation.{object, thunk_at, input_object, job_of}
-use Rattle.need_eval.specs.PartWay.{StopsWith}
+use Rattle.need_eval.specs.WritePrefix.{StopsWith}
 use Rattle.need_eval.specs.Pieces.{StopsReading}
 
 -- what follows a stop doesn't matter

@@ -16,7 +16,7 @@ use Rattle.need_eval.specs.declared.walker.Walked.{Walked}
 use Rattle.need_eval.specs.declared.walker.Walked.TheVariants.{Ended, Blocked}
 use Rattle.need_eval.specs.Eval.{start}
 use Rattle.need_eval.specs.Evaluation.{by_list}
-use Rattle.need_eval.specs.PartWay.{AreAnswers, EvalCause}
+use Rattle.need_eval.specs.WritePrefix.{AreAnswers, EvalCause}
 use Rattle.need_eval.specs.Pieces.{KeeperCause, RunCause}
 use Rattle.need_eval.specs.Walking.{Advances, Supplies, StandsAt, Waits, GoesOn, HasSteps, blocked_at}
 use Rattle.need_eval.specs.Progress.{IsProgress, Evaluates}

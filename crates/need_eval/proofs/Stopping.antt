@@ -6,23 +6,23 @@ use Rattle.need_eval.specs.declared.fault.EvalFault.{EvalFault}
 use Rattle.need_eval.specs.declared.fault.EvalFault.TheVariants as faults
 use Rattle.need_eval.specs.declared.evaluating.Values.{Values}
 use Rattle.need_eval.specs.Eval.{State, Ended}
-use Rattle.need_eval.specs.PartWay.{state_after, IsPartWay, Stops, Does}
+use Rattle.need_eval.specs.WritePrefix.{state_after, IsWritePrefix, Stops, Does}
 use Rattle.need_eval.specs.Pieces.{StopsReading, RunCause}
 use Rattle.need_eval.proofs.Growth.{Grows, written-append}
 
 -- nothing of what is to be written was written
-pub part_way-unwritten : {A : Type 0} (s : State) (e : Ended A) (now : Store) → Grows s (state_after e) → now ≡ s.store → IsPartWay s e now
-part_way-unwritten s e now grown same = record { front = []; others = grown.made; list = grown.writes; kept = same }
+pub part_way-unwritten : {A : Type 0} (s : State) (e : Ended A) (now : Store) → Grows s (state_after e) → now ≡ s.store → IsWritePrefix s e now
+part_way-unwritten s e now grown same = record { prefix = []; others = grown.made; list = grown.writes; kept = same }
 
 -- from an earlier state
-part_way-earlier : {A : Type 0} (s t : State) (e : Ended A) (now : Store) → Grows s t → IsPartWay t e now → IsPartWay s e now
+part_way-earlier : {A : Type 0} (s t : State) (e : Ended A) (now : Store) → Grows s t → IsWritePrefix t e now → IsWritePrefix s e now
 part_way-earlier s t e now first h = record {
-  front = first.made ++ h.front;
+  prefix = first.made ++ h.prefix;
   others = h.others;
-  list = h.list ∙ ap (λ writes. writes ++ (h.front ++ h.others)) first.writes
-      ∙ append_assoc s.writes first.made (h.front ++ h.others)
-      ∙ ap (λ rest. s.writes ++ rest) (sym (append_assoc first.made h.front h.others));
-  kept = h.kept ∙ ap (λ store. written store h.front) first.store ∙ sym (written-append s.store first.made h.front);
+  list = h.list ∙ ap (λ writes. writes ++ (h.prefix ++ h.others)) first.writes
+      ∙ append_assoc s.writes first.made (h.prefix ++ h.others)
+      ∙ ap (λ rest. s.writes ++ rest) (sym (append_assoc first.made h.prefix h.others));
+  kept = h.kept ∙ ap (λ store. written store h.prefix) first.store ∙ sym (written-append s.store first.made h.prefix);
 }
 
 pub Stops-earlier : {A : Type 0} (s t : State) (e : Ended A) (now : Store) (fault : EvalFault) → Grows s t → Stops t e now fault → Stops s e now fault

@@ -8,7 +8,7 @@ use Rattle.blob_store.specs.declared.storing.StoreFault.{StoreFault}
 use Rattle.blob_store.specs.declared.storing.StoreFault.TheVariants as stores
 use Rattle.need_eval.specs.Eval.{State, Clash, Got, Stopped, Eval, go_on, ◌>>=◌, give, each, make_write}
 use Rattle.need_eval.specs.Evaluation.{no_clash, store_one}
-use Rattle.need_eval.specs.PartWay.{state_after, IsPartWay, StopsWith, Stops}
+use Rattle.need_eval.specs.WritePrefix.{state_after, IsWritePrefix, StopsWith, Stops}
 use Rattle.need_eval.specs.Pieces.{KeeperCause, fault_of_store}
 use Rattle.need_eval.specs.Putting.{Puts, after_writes}
 use Rattle.need_eval.proofs.Keeping.{keeps-store_one}
@@ -55,13 +55,13 @@ module _ (bytes : List ℕ) (s : State) where
     store = same;
   }
 
-  store_one-may : (now : Store) → MayStore s.store bytes now → IsPartWay s (store_one bytes s) now
+  store_one-may : (now : Store) → MayStore s.store bytes now → IsWritePrefix s (store_one bytes s) now
   store_one-may now (inl same) = part_way-unwritten s (store_one bytes s) now (keeps-store_one Grows Grows-kept Grows-write bytes s) same
   store_one-may now (inr stored) =
       let none : other_held s.store bytes ≡ None = ap (λ found. option_and_then (λ found. if bytes_eq found bytes then None else Some found) found) stored.free in
       let one : storing s.store bytes ≡ own_write bytes ∷ [] = ap (λ (found : Option (List ℕ)). if is_some found then [] else own_write bytes ∷ []) stored.free in
       record {
-        front = own_write bytes ∷ [];
+        prefix = own_write bytes ∷ [];
         others = [];
         list = ap (λ e. (state_after e).writes) (store_one-free none) ∙ ap (λ writes. s.writes ++ writes) one;
         kept = stored.made;

@@ -16,7 +16,7 @@ use Rattle.blob_store.proofs.Names.{eq_by_cmp-name}
 use Rattle.need_eval.specs.declared.fault.Refusal.TheVariants.{Missing}
 use Rattle.need_eval.specs.Eval.{State, Stop, Refused, Ended, Got, Stopped, Eval, go_on, ◌>>=◌, give, need, each}
 use Rattle.need_eval.specs.Evaluation.{object, input_object, job_of}
-use Rattle.need_eval.specs.PartWay.{state_after}
+use Rattle.need_eval.specs.WritePrefix.{state_after}
 use Rattle.need_eval.proofs.ReadOnly.{input_object_gives, job_of-gives}
 
 -- ---- what is held has its name

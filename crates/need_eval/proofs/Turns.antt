@@ -21,7 +21,7 @@ use Rattle.need_eval.specs.declared.frame.Frame.{Frame}
 use Rattle.need_eval.specs.Eval.{State, Refused, Stands, Ended, Got, Stopped, Eval, go_on, ◌>>=◌, give, check, need, note_asked, mark}
 use Rattle.need_eval.specs.Evaluation.{object, job_of, finished, ask, outputs_of, reduce, count, entered, outputs_at, passed, value_of, values_of}
 use Rattle.need_eval.specs.Machine.{resume}
-use Rattle.need_eval.specs.PartWay.{state_after}
+use Rattle.need_eval.specs.WritePrefix.{state_after}
 use Rattle.need_eval.specs.Pieces.{StopsReading}
 use Rattle.blob_store.proofs.Names.{name_cmp-same}
 use Rattle.need_eval.proofs.Fuel.{value_of-is}

@@ -13,7 +13,7 @@ use Rattle.need_eval.specs.declared.walker.Walker.{Walker}
 use Rattle.need_eval.specs.Eval.{State, Ended, Got, Stopped, go_on, give, start}
 use Rattle.need_eval.specs.Evaluation.{values_of, by_list}
 use Rattle.need_eval.specs.Machine.{resume}
-use Rattle.need_eval.specs.PartWay.{state_after, Does}
+use Rattle.need_eval.specs.WritePrefix.{state_after, Does}
 use Rattle.need_eval.specs.Walking.{walking, left, IsFresh, GoesOn, Advances, Supplied, Supplies, HasSteps}
 use Rattle.need_eval.specs.Walk.{Answers, IsWalk}
 use Rattle.need_eval.proofs.Growth.{written-append, resume-grows}

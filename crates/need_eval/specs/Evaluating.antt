@@ -9,7 +9,7 @@ use Rattle.need_eval.specs.declared.fault.EvalFault.{EvalFault}
 use Rattle.need_eval.specs.declared.evaluating.Values.{Values}
 use Rattle.need_eval.specs.Eval.{start}
 use Rattle.need_eval.specs.Evaluation.{values_of, by_function, by_list}
-use Rattle.need_eval.specs.PartWay.{state_after, Does, AreAnswers}
+use Rattle.need_eval.specs.WritePrefix.{state_after, Does, AreAnswers}
 
 -- evaluation with one function, where each job of it is told
 abbrev pub EvaluatesAll : (Job → Type 0) → (Job → Outcome) → ℕ → List Ref → Store → Store → Result Values EvalFault → Type 0

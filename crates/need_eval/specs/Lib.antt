@@ -1,6 +1,6 @@
 pub mod Eval
 pub mod Evaluation
-pub mod PartWay
+pub mod WritePrefix
 pub mod Pieces
 pub mod Machine
 pub mod Walking

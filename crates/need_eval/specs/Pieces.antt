@@ -11,7 +11,7 @@ use Rattle.need_eval.specs.declared.fault.EvalFault.{EvalFault}
 use Rattle.need_eval.specs.declared.fault.EvalFault.TheVariants as faults
 use Rattle.need_eval.specs.Eval.{State, Refused, Ended, Got, Eval, ◌>>◌, give, check}
 use Rattle.need_eval.specs.Evaluation.{count}
-use Rattle.need_eval.specs.PartWay.{StopsWith, Stops, Gives, HaveOneName}
+use Rattle.need_eval.specs.WritePrefix.{StopsWith, Stops, Gives, HaveOneName}
 
 -- an evaluation that writes nothing stops so, or the keeper failed or memory was refused on the way
 abbrev pub StopsReading : {A : Type 0} → Ended A → Store → EvalFault → Type 0

@@ -11,7 +11,7 @@ use Rattle.need_eval.specs.declared.walker.Walker.{Walker}
 use Rattle.need_eval.specs.Eval.{start}
 use Rattle.need_eval.specs.Evaluation.{values_of, by_function}
 use Rattle.need_eval.specs.Evaluating.{EvaluatesAll, EvaluatesSome}
-use Rattle.need_eval.specs.PartWay.{state_after, AreAnswers}
+use Rattle.need_eval.specs.WritePrefix.{state_after, AreAnswers}
 use Rattle.need_eval.specs.Walk.{Answers, IsWalk}
 
 -- the outcomes given so far fit their jobs, and are the function's where that is told, or where all jobs of the evaluation with it are

@@ -3,7 +3,7 @@ use Rattle.std.specs.Prelude.{◌≡◌, List, ◌++◌, Result, Ok, Err}
 use Rattle.blob_store.specs.Store.{Store, Write, written}
 use Rattle.need_eval.specs.declared.fault.EvalFault.{EvalFault}
 use Rattle.need_eval.specs.Eval.{State, Got, Eval}
-use Rattle.need_eval.specs.PartWay.{Stops}
+use Rattle.need_eval.specs.WritePrefix.{Stops}
 
 -- the state after some writes more
 abbrev pub after_writes : State → List Write → State

@@ -22,7 +22,7 @@ use Rattle.need_eval.specs.declared.walker.Walked.TheVariants.{Ended, Blocked}
 use Rattle.need_eval.specs.Eval.{State, Eval, Got}
 use Rattle.need_eval.specs.Evaluation.{job_of}
 use Rattle.need_eval.specs.Machine.{resume, work_left}
-use Rattle.need_eval.specs.PartWay.{Stops}
+use Rattle.need_eval.specs.WritePrefix.{Stops}
 use Rattle.need_eval.specs.Pieces.{StopsReading}
 
 -- the outputs of the thunk of this name, where it was reduced

@@ -5,7 +5,7 @@ ghost use Rattle.std.specs.List.{AllByRecursion};
 ghost use Rattle.thunk_codec.specs.Outcome.{Fits};
 ghost use Rattle.thunk_codec.specs.Reference.{IsRef};
 ghost use Rattle.need_eval.specs.Evaluating.{EvaluatesAll, EvaluatesSome};
-ghost use Rattle.need_eval.specs.PartWay.{EvalCause, ClashShows};
+ghost use Rattle.need_eval.specs.WritePrefix.{EvalCause, ClashShows};
 ghost use Rattle.need_eval.specs.Pieces.{RunCause};
 ghost use Rattle.need_eval.specs.Walking.{blocked_at};
 
@@ -34,7 +34,7 @@ pub fn evaluate<K: Keeper, R: Runner>(
     runner: &mut R,
 ) -> Result<Values, EvalFault>
     requires { AllByRecursion IsRef refs }
-    // Where the jobs are told, it is the evaluation with the runner's function, or stops at a fault after a front of its writes.
+    // Where the jobs are told, it is the evaluation with the runner's function, or stops at a fault after a prefix of its writes.
     ensures exact { K.tells → EvaluatesAll R.tells R.outcome budget refs (K.store keeper.old) (K.store keeper.new) result }
     // Where they aren't, there are outcomes that fit them for which it is so.
     ensures some { K.tells → EvaluatesSome R.tells R.outcome budget refs (K.store keeper.old) (K.store keeper.new) result }

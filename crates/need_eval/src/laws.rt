@@ -19,7 +19,7 @@ ghost use Rattle.need_eval.specs.declared.walker.Walked.TheVariants.{Ended};
 ghost use Rattle.need_eval.specs.declared.walker.Walker.{Walker};
 ghost use Rattle.need_eval.specs.Eval.{State, Got, start};
 ghost use Rattle.need_eval.specs.Evaluation.{job_of, value_by, value_of, values_of, by_list};
-ghost use Rattle.need_eval.specs.PartWay.{state_after, Does};
+ghost use Rattle.need_eval.specs.WritePrefix.{state_after, Does};
 ghost use Rattle.need_eval.specs.Pieces.{RunCause};
 ghost use Rattle.need_eval.specs.Walking.{IsFresh, GoesOn, StandsAt, Advances, Supplied, Supplies, HasSteps};
 ghost use Rattle.need_eval.specs.Walk.{Answers, IsWalk};

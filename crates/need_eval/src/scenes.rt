@@ -10,7 +10,7 @@ use thunk_codec::Ref;
 /// The values that a thunk's references may name. The first is the function of the thunks that answer with a thunk.
 const VALUES: [&[u8]; 6] = [b"", b"a", b"bc", b"def", b"-", b"gg"];
 
-/// Where the text of a thunk is cut into two values. The whole mark of a thunk's text would make the front one a thunk.
+/// Where the text of a thunk is cut into two values. The whole mark of a thunk's text would make the prefix one a thunk.
 const CUT: usize = 5;
 
 /// How many thunks a store has.
@@ -153,11 +153,11 @@ impl Scene {
     /// A thunk that answers with this text, whose two halves are its inputs.
     fn giving(&mut self, text: &[u8]) -> Result<Bytes, Fail> {
         let cut = CUT.min(text.len());
-        let (front, back) = text.split_at(cut);
-        self.keep(front)?;
+        let (prefix, back) = text.split_at(cut);
+        self.keep(prefix)?;
         self.keep(back)?;
         let function = Ref::Value(name_of(VALUES[0])?);
-        let inputs = [Ref::Value(name_of(front)?), Ref::Value(name_of(back)?)];
+        let inputs = [Ref::Value(name_of(prefix)?), Ref::Value(name_of(back)?)];
         let outputs = self.outputs();
         Ok(thunk_text(self.alloc, &function, false, &inputs, outputs)?)
     }

@@ -217,9 +217,9 @@ written (y ∷ ys) a b x len len_a len_b =
     let whole_b : take 8 b ≡ b = take_all 8 b (omega (arith, len_b)) in
     let then_a : put_mid 1 43 (x ∷ ys) a ≡ x ∷ a ++ drop 43 ys = first ∙ ap (λ (l : List ℕ). x ∷ l ++ drop 43 ys) whole_a in
     let second = put_mid-paste 44 8 (x ∷ a ++ drop 43 ys) b b 8 refl refl (sym len_b) in
-    let front : take 43 (a ++ drop 43 ys) ≡ a = take_at a (drop 43 ys) 43 len_a in
+    let prefix : take 43 (a ++ drop 43 ys) ≡ a = take_at a (drop 43 ys) 43 len_a in
     let rest : drop 51 (a ++ drop 43 ys) ≡ [] = drop_all 51 (a ++ drop 43 ys) (omega (arith, length-append a (drop 43 ys), length-drop 43 ys, len_a, len)) in
-    ap (λ (l : List ℕ). put_mid 44 8 l b) then_a ∙ second ∙ rw (front, whole_b, rest, append-nil (a ++ b)) refl
+    ap (λ (l : List ℕ). put_mid 44 8 l b) then_a ∙ second ∙ rw (prefix, whole_b, rest, append-nil (a ++ b)) refl
 
 -- the letter, the digest's text and the size's text are the spelling
 pub spelling_written : (text digest size : List ℕ) (letter : ℕ) (n : ObjectName) → length text ≡ 52 → letter ≡ letter_of_kind n.kind → length digest ≡ 43 → digest ≡ encode_of url_safe_no_pad n.digest

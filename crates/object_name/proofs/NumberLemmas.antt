@@ -96,13 +96,13 @@ value_after_ge : (value : ℕ) (ds : List ℕ) → value ≤ fold (λ before dig
 value_after_ge value [] = omega arith
 value_after_ge value (d ∷ ds) = omega (arith, value_after_ge (value * 10 + (d - 48)) ds)
 
--- the value of a front after a value is at most that of the whole
+-- the value of a prefix after a value is at most that of the whole
 value_after-take : (value : ℕ) (ds : List ℕ) (i : ℕ) → fold (λ before digit. before * 10 + (digit - 48)) value (take i ds) ≤ fold (λ before digit. before * 10 + (digit - 48)) value ds
 value_after-take value ds zero = value_after_ge value ds
 value_after-take value [] (suc i) = omega arith
 value_after-take value (d ∷ ds) (suc i) = value_after-take (value * 10 + (d - 48)) ds i
 
--- the value of a front of digits is at most that of the whole
+-- the value of a prefix of digits is at most that of the whole
 pub digits_value-take : (text : List ℕ) (i : ℕ) → digits_value (take i text) ≤ digits_value text
 digits_value-take text i = value_after-take 0 text i
 
@@ -110,7 +110,7 @@ digits_value-take text i = value_after-take 0 text i
 pub digits_value_more : (text : List ℕ) (i : ℕ) → i < length text → digits_value (take (i + 1) text) ≡ digits_value (take i text) * 10 + (get_or text i 0 - 48)
 digits_value_more text i below = fold_more (λ (before : ℕ) (digit : ℕ). before * 10 + (digit - 48)) 0 text i 0 below
 
--- a front that would be too great as it is, or with the next digit, is no front of a number below 2 ^ 64
+-- a prefix that would be too great as it is, or with the next digit, is no front of a number below 2 ^ 64
 pub too_great : (text : List ℕ) (i value high : ℕ) → i < length text → value ≡ digits_value (take i text) → high ≤ value * 10 + (get_or text i 0 - 48) → digits_value text < high → ⊥
 too_great text i value high below is over fits =
     let more = digits_value_more text i below in

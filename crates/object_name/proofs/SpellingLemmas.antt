@@ -49,7 +49,7 @@ size_decoded text out n r h e = rw (decode_sized-size text n e) at h
 pub from_be_bytes-size : (out : List ℕ) (m n : ℕ) → n ≤ max_size → out ≡ to_be_bytes w32 n → m ≡ from_be_bytes w32 out → m ≡ n
 from_be_bytes-size out m n small e made = made ∙ ap (from_be_bytes w32) e ∙ from_be_bytes-to_be_bytes_4 n (omega arith)
 
--- a front of bytes is bytes
+-- a prefix of bytes is bytes
 pub IsBytes-take : (n : ℕ) (xs : List ℕ) → IsBytes xs → IsBytes (take n xs)
 IsBytes-take zero xs h i = omega arith
 IsBytes-take (suc n) [] h i = omega arith

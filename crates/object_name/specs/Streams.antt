@@ -2,25 +2,25 @@
 use Rattle.std.specs.Prelude.{◌≡◌, ℕ, ◌≤◌, List, ◌++◌, length, Option}
 use Rattle.std.specs.Io.KnownBytes.{Appends, Consumes}
 
--- the list begins with the front
-pub record IsFront {A : Type 0} (front all : List A) : Type 0 where
+-- the list begins with the prefix
+pub record IsPrefix {A : Type 0} (prefix all : List A) : Type 0 where
   pub rest : List A
-  pub whole : all ≡ front ++ rest
+  pub whole : all ≡ prefix ++ rest
 
--- known bytes grow by a front of these bytes
-pub record AppendsFront (before after : Option (List ℕ)) (bytes : List ℕ) : Type 0 where
-  pub front : List ℕ
-  pub is_front : IsFront front bytes
-  pub grown : Appends before after front
+-- known bytes grow by a prefix of these bytes
+pub record AppendsPrefix (before after : Option (List ℕ)) (bytes : List ℕ) : Type 0 where
+  pub prefix : List ℕ
+  pub is_prefix : IsPrefix prefix bytes
+  pub grown : Appends before after prefix
 
--- known bytes lose a front of this length
-pub record LosesFront (before after : Option (List ℕ)) (size : ℕ) : Type 0 where
-  pub front : List ℕ
-  pub sized : length front ≡ size
-  pub lost : Consumes before after front
+-- known bytes lose a prefix of this length
+pub record LosesPrefix (before after : Option (List ℕ)) (size : ℕ) : Type 0 where
+  pub prefix : List ℕ
+  pub sized : length prefix ≡ size
+  pub lost : Consumes before after prefix
 
--- known bytes lose a front of this length at most
+-- known bytes lose a prefix of this length at most
 pub record LosesUpTo (before after : Option (List ℕ)) (size : ℕ) : Type 0 where
-  pub front : List ℕ
-  pub sized : length front ≤ size
-  pub lost : Consumes before after front
+  pub prefix : List ℕ
+  pub sized : length prefix ≤ size
+  pub lost : Consumes before after prefix

@@ -68,7 +68,7 @@ impl MemSource {
     }
 }
 
-/// Copies a front of some bytes, as many as there is room for, and says how many.
+/// Copies a prefix of some bytes, as many as there is room for, and says how many.
 fn fill(buf: &mut [u8], bytes: &[u8]) -> usize
     ensures count { result ≡ min (length buf.old) (length bytes.now) }
     ensures given { take result buf.new ≡ take result bytes.now }

@@ -3,7 +3,7 @@
 ghost use Rattle.std.specs.Prelude.{◌≡◌, ◌≤◌, ◌<◌, ◌++◌, ℕ, List, take, length, Option, IfOk, OnOk, OnErr, Result};
 ghost use Rattle.std.specs.Io.KnownBytes.{Appends, Keeps};
 ghost use Rattle.object_name.specs.Causes.{HasCause};
-ghost use Rattle.object_name.specs.Streams.{AppendsFront};
+ghost use Rattle.object_name.specs.Streams.{AppendsPrefix};
 
 use crate::trouble::Trouble;
 
@@ -24,10 +24,10 @@ pub trait Sink {
         ensures cause { HasCause (faults self.old) (faults self.new) result };
 }
 
-/// Writes all the bytes. After a refusal a front of them is written.
+/// Writes all the bytes. After a refusal a prefix of them is written.
 pub fn write_all<S: Sink>(sink: &mut S, bytes: &[u8]) -> Result<(), Trouble>
     ensures ok { OnOk result (Appends (S.written sink.old) (S.written sink.new) bytes.now) }
-    ensures front { AppendsFront (S.written sink.old) (S.written sink.new) bytes.now }
+    ensures prefix { AppendsPrefix (S.written sink.old) (S.written sink.new) bytes.now }
     ensures cause { HasCause (S.faults sink.old) (S.faults sink.new) result }
 {
     let mut at = 0;

@@ -4,7 +4,7 @@ ghost use Rattle.std.specs.Prelude.{◌≡◌, ◌≤◌, ◌<◌, ◌+◌, ℕ,
 ghost use Rattle.std.specs.Io.KnownBytes.{Consumes, Keeps, IsAtEnd};
 ghost use Rattle.object_name.specs.Causes.{HasCause, Rose};
 ghost use Rattle.object_name.specs.Calls.{risen};
-ghost use Rattle.object_name.specs.Streams.{LosesFront, LosesUpTo};
+ghost use Rattle.object_name.specs.Streams.{LosesPrefix, LosesUpTo};
 
 use crate::bytes::Bytes;
 use crate::trouble::Trouble;
@@ -21,7 +21,7 @@ pub trait Source {
     /// How often a read was made.
     ghost reads: { Self → ℕ };
 
-    /// Fills a front of a buffer that isn't empty, and says how many bytes it gave. 0 is the end of input.
+    /// Fills a prefix of a buffer that isn't empty, and says how many bytes it gave. 0 is the end of input.
     fn read(&mut self, buf: &mut [u8]) -> Result<usize, Trouble>
         requires { 0 < length buf.old }
         ensures count { IfOk result (λ n. n ≤ length buf.new) }
@@ -84,9 +84,9 @@ pub fn read_all<S: Source>(alloc: Global, source: &mut S, limit: usize) -> Resul
     ensures whole { IfOk result (λ bytes. IfSome (S.left source.old) (λ all. bytes ≡ all)) }
     ensures end { OnOk result (IsAtEnd (S.left source.new)) }
     ensures fits { IfOk result (λ bytes. length bytes ≤ limit) }
-    ensures too_long { IsErrOf result ReadEnd.TooLong → LosesFront (S.left source.old) (S.left source.new) (limit + 1) }
+    ensures too_long { IsErrOf result ReadEnd.TooLong → LosesPrefix (S.left source.old) (S.left source.new) (limit + 1) }
     ensures over { IsErrOf result ReadEnd.TooLong → IfSome (S.left source.old) (λ all. limit < length all) }
-    ensures front { LosesUpTo (S.left source.old) (S.left source.new) (limit + 1) }
+    ensures prefix { LosesUpTo (S.left source.old) (S.left source.new) (limit + 1) }
     ensures failed { IsErrOf result ReadEnd.Failed → Rose (S.faults source.old) (S.faults source.new) }
     ensures later { S.faults source.old ≤ S.faults source.new }
     ensures reads { S.reads source.new ≤ S.reads source.old + limit + 2 }

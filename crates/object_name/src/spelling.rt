@@ -36,7 +36,7 @@ pub(crate) fn spell_size(size: u32, into: &mut [u8])
 
 /// The first 32 bytes, which a digest was decoded to.
 fn decoded_digest(decoded: &[u8; 33]) -> [u8; 32]
-    ensures front { result ≡ take 32 decoded.now }
+    ensures prefix { result ≡ take 32 decoded.now }
     ensures bytes { IsBytes result }
     ensures whole { length result ≡ 32 }
 {

@@ -12,10 +12,10 @@ use Rattle.object_name.specs.Kind.{letter_of_kind}
 use Rattle.object_name.specs.Name.{ObjectName, IsName, spelling, named_by}
 use Rattle.object_name.proofs.NameLemmas.{HasParts-spelling, length-spelling, named_by-spelling, spelling-named_by}
 use Rattle.thunk_codec.specs.Maybe.{◌>>=◌}
-use Rattle.thunk_codec.specs.Reading.{behind}
+use Rattle.thunk_codec.specs.Reading.{strip_prefix}
 use Rattle.thunk_codec.proofs.Steps.{bind_some}
-use Rattle.thunk_codec.proofs.Fields.{behind_takes}
-use Rattle.thunk_codec.proofs.Loops.{with_front}
+use Rattle.thunk_codec.proofs.Fields.{strip_prefix_takes}
+use Rattle.thunk_codec.proofs.Loops.{with_prefix}
 use Rattle.reduction_cache.specs.Note.{name_line, note_end}
 use Rattle.reduction_cache.specs.Reading.{name_at, names_at}
 
@@ -24,10 +24,10 @@ use Rattle.reduction_cache.specs.Reading.{name_at, names_at}
 pub name_takes : (bytes : List ℕ) (x : ObjectName × List ℕ) → name_at bytes ≡ Some x → (bytes ≡ name_line x.0 ++ x.1) × IsName x.0
 unfolding name_at
 name_takes bytes x e =
-    let a = bind_some (named_by (take 52 bytes)) (λ name. behind (10 ∷ []) (drop 52 bytes) >>= λ rest. Some (name, rest)) x e in
-    let b = bind_some (behind (10 ∷ []) (drop 52 bytes)) (λ rest. Some (a.0, rest)) x a.2 in
+    let a = bind_some (named_by (take 52 bytes)) (λ name. strip_prefix (10 ∷ []) (drop 52 bytes) >>= λ rest. Some (name, rest)) x e in
+    let b = bind_some (strip_prefix (10 ∷ []) (drop 52 bytes)) (λ rest. Some (a.0, rest)) x a.2 in
     let named = spelling-named_by (take 52 bytes) a.0 a.1 in
-    let feed = behind_takes (10 ∷ []) (drop 52 bytes) b.0 b.1 in
+    let feed = strip_prefix_takes (10 ∷ []) (drop 52 bytes) b.0 b.1 in
     let whole : bytes ≡ name_line a.0 ++ b.0 =
     sym (take-append-drop 52 bytes)
     ∙ ap (λ (v : List ℕ). v ++ drop 52 bytes) named.1
@@ -39,9 +39,9 @@ pub name_again : (name : ObjectName) (rest : List ℕ) → IsName name → name_
 unfolding name_at
 name_again name rest h =
     let len = length-spelling name h in
-    let front : take 52 (spelling name ++ 10 ∷ rest) ≡ spelling name = take_at (spelling name) (10 ∷ rest) 52 len in
+    let prefix : take 52 (spelling name ++ 10 ∷ rest) ≡ spelling name = take_at (spelling name) (10 ∷ rest) 52 len in
     let back : drop 52 (spelling name ++ 10 ∷ rest) ≡ 10 ∷ rest = drop_at (spelling name) (10 ∷ rest) 52 len in
-    ap name_at (append_assoc (spelling name) (10 ∷ []) rest) ∙ rw (front, back, named_by-spelling name h) refl
+    ap name_at (append_assoc (spelling name) (10 ∷ []) rest) ∙ rw (prefix, back, named_by-spelling name h) refl
 
 -- ---- names up to the last line
 
@@ -122,63 +122,63 @@ name_short bytes short =
 
 -- ---- names one after another, as a loop reads them
 
-with_front-more : (front : List ObjectName) (name : ObjectName) (read : Option (List ObjectName × List ℕ)) → with_front front (read >>= λ others. Some (name ∷ others.0, others.1)) ≡ with_front (front ++ name ∷ []) read
-with_front-more front name (Some others) = ap (λ (v : List ObjectName). Some (v, others.1)) (sym (append_assoc front (name ∷ []) others.0))
-with_front-more front name None = refl
+with_prefix-more : (prefix : List ObjectName) (name : ObjectName) (read : Option (List ObjectName × List ℕ)) → with_prefix prefix (read >>= λ others. Some (name ∷ others.0, others.1)) ≡ with_prefix (prefix ++ name ∷ []) read
+with_prefix-more prefix name (Some others) = ap (λ (v : List ObjectName). Some (v, others.1)) (sym (append_assoc prefix (name ∷ []) others.0))
+with_prefix-more prefix name None = refl
 
 -- some names are read, and the rest of the bytes gives what is left
-pub record Going (bytes : List ℕ) (front : List ObjectName) (rest : List ℕ) (count : ℕ) : Type 0 where
-  pub goes_on : with_front front (names_at (64 - count) rest) ≡ names_at 64 bytes
+pub record Going (bytes : List ℕ) (prefix : List ObjectName) (rest : List ℕ) (count : ℕ) : Type 0 where
+  pub goes_on : with_prefix prefix (names_at (64 - count) rest) ≡ names_at 64 bytes
 
-with_front-nil : (read : Option (List ObjectName × List ℕ)) → with_front [] read ≡ read
-with_front-nil (Some x) = refl
-with_front-nil None = refl
+with_prefix-nil : (read : Option (List ObjectName × List ℕ)) → with_prefix [] read ≡ read
+with_prefix-nil (Some x) = refl
+with_prefix-nil None = refl
 
-pub going_start : (bytes : List ℕ) (front : List ObjectName) → front ≡ [] → Going bytes front bytes 0
-going_start bytes front is = record { goes_on = ap (λ (v : List ObjectName). with_front v (names_at 64 bytes)) is ∙ with_front-nil (names_at 64 bytes) }
+pub going_start : (bytes : List ℕ) (prefix : List ObjectName) → prefix ≡ [] → Going bytes prefix bytes 0
+going_start bytes prefix is = record { goes_on = ap (λ (v : List ObjectName). with_prefix v (names_at 64 bytes)) is ∙ with_prefix-nil (names_at 64 bytes) }
 
 names_end : (most : ℕ) (rest : List ℕ) → ends rest ≡ true → names_at most rest ≡ Some ([], rest)
 unfolding names_at
 names_end zero rest done = refl
 names_end (suc most) rest done = rw done refl
 
-ends_by : (most : ℕ) (bytes : List ℕ) (front : List ObjectName) (rest : List ℕ) → with_front front (names_at most rest) ≡ names_at 64 bytes → names_at most rest ≡ Some ([], rest) → Some (front, rest) ≡ names_at 64 bytes
-ends_by most bytes front rest goes_on done =
-    sym (ap (with_front front) done ∙ ap (λ (v : List ObjectName). Some (v, rest)) (append-nil front)) ∙ goes_on
+ends_by : (most : ℕ) (bytes : List ℕ) (prefix : List ObjectName) (rest : List ℕ) → with_prefix prefix (names_at most rest) ≡ names_at 64 bytes → names_at most rest ≡ Some ([], rest) → Some (prefix, rest) ≡ names_at 64 bytes
+ends_by most bytes prefix rest goes_on done =
+    sym (ap (with_prefix prefix) done ∙ ap (λ (v : List ObjectName). Some (v, rest)) (append-nil prefix)) ∙ goes_on
 
 -- the last line ends it
-pub going_ends : (bytes : List ℕ) (front : List ObjectName) (rest : List ℕ) (count : ℕ) → Going bytes front rest count → ends rest ≡ true → Some (front, rest) ≡ names_at 64 bytes
-going_ends bytes front rest count going done = ends_by (64 - count) bytes front rest going.goes_on (names_end (64 - count) rest done)
+pub going_ends : (bytes : List ℕ) (prefix : List ObjectName) (rest : List ℕ) (count : ℕ) → Going bytes prefix rest count → ends rest ≡ true → Some (prefix, rest) ≡ names_at 64 bytes
+going_ends bytes prefix rest count going done = ends_by (64 - count) bytes prefix rest going.goes_on (names_end (64 - count) rest done)
 
 no_more : (most : ℕ) (rest : List ℕ) → most ≡ 0 → names_at most rest ≡ Some ([], rest)
 unfolding names_at
 no_more most rest none = rw none refl
 
 -- so many names end it
-pub going_full : (bytes : List ℕ) (front : List ObjectName) (rest : List ℕ) (count : ℕ) → Going bytes front rest count → 64 ≤ count → Some (front, rest) ≡ names_at 64 bytes
-going_full bytes front rest count going full = ends_by (64 - count) bytes front rest going.goes_on (no_more (64 - count) rest (omega (arith, full)))
+pub going_full : (bytes : List ℕ) (prefix : List ObjectName) (rest : List ℕ) (count : ℕ) → Going bytes prefix rest count → 64 ≤ count → Some (prefix, rest) ≡ names_at 64 bytes
+going_full bytes prefix rest count going full = ends_by (64 - count) bytes prefix rest going.goes_on (no_more (64 - count) rest (omega (arith, full)))
 
 one_more : (most next : ℕ) (rest : List ℕ) → most ≡ suc next → ends rest ≡ false → names_at most rest ≡ (name_at rest >>= λ first. names_at next first.1 >>= λ others. Some (first.0 ∷ others.0, others.1))
 unfolding names_at
 one_more most next rest is more = ap (λ (n : ℕ). names_at n rest) is ∙ rw more refl
 
 -- what isn't a name ends it with nothing
-pub going_fails : (bytes : List ℕ) (front : List ObjectName) (rest : List ℕ) (count : ℕ) → Going bytes front rest count → count < 64 → ends rest ≡ false → None ≡ name_at rest → None ≡ names_at 64 bytes
-going_fails bytes front rest count going lt more none =
+pub going_fails : (bytes : List ℕ) (prefix : List ObjectName) (rest : List ℕ) (count : ℕ) → Going bytes prefix rest count → count < 64 → ends rest ≡ false → None ≡ name_at rest → None ≡ names_at 64 bytes
+going_fails bytes prefix rest count going lt more none =
     let left : 64 - count ≡ suc (63 - count) = omega (arith, lt) in
-    ap (λ (o : Option (ObjectName × List ℕ)). with_front front (o >>= λ first. names_at (63 - count) first.1 >>= λ others. Some (first.0 ∷ others.0, others.1))) none
-    ∙ sym (ap (with_front front) (one_more (64 - count) (63 - count) rest left more)) ∙ going.goes_on
+    ap (λ (o : Option (ObjectName × List ℕ)). with_prefix prefix (o >>= λ first. names_at (63 - count) first.1 >>= λ others. Some (first.0 ∷ others.0, others.1))) none
+    ∙ sym (ap (with_prefix prefix) (one_more (64 - count) (63 - count) rest left more)) ∙ going.goes_on
 
 -- a name more
-pub going_more : (bytes : List ℕ) (front new : List ObjectName) (rest after : List ℕ) (name : ObjectName) (count : ℕ) → Going bytes front rest count → count < 64 → ends rest ≡ false
-    → Some (name, after) ≡ name_at rest → new ≡ front ++ name ∷ [] → Going bytes new after (count + 1)
-going_more bytes front new rest after name count going lt more read pushed =
+pub going_more : (bytes : List ℕ) (prefix new : List ObjectName) (rest after : List ℕ) (name : ObjectName) (count : ℕ) → Going bytes prefix rest count → count < 64 → ends rest ≡ false
+    → Some (name, after) ≡ name_at rest → new ≡ prefix ++ name ∷ [] → Going bytes new after (count + 1)
+going_more bytes prefix new rest after name count going lt more read pushed =
     let left : 64 - count ≡ suc (64 - (count + 1)) = omega (arith, lt) in
     record {
       goes_on =
-          ap (λ (v : List ObjectName). with_front v (names_at (64 - (count + 1)) after)) pushed
-          ∙ sym (with_front-more front name (names_at (64 - (count + 1)) after))
-          ∙ ap (λ (o : Option (ObjectName × List ℕ)). with_front front (o >>= λ first. names_at (64 - (count + 1)) first.1 >>= λ others. Some (first.0 ∷ others.0, others.1))) read
-          ∙ sym (ap (with_front front) (one_more (64 - count) (64 - (count + 1)) rest left more))
+          ap (λ (v : List ObjectName). with_prefix v (names_at (64 - (count + 1)) after)) pushed
+          ∙ sym (with_prefix-more prefix name (names_at (64 - (count + 1)) after))
+          ∙ ap (λ (o : Option (ObjectName × List ℕ)). with_prefix prefix (o >>= λ first. names_at (64 - (count + 1)) first.1 >>= λ others. Some (first.0 ∷ others.0, others.1))) read
+          ∙ sym (ap (with_prefix prefix) (one_more (64 - count) (64 - (count + 1)) rest left more))
           ∙ going.goes_on;
     }

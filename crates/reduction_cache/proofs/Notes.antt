@@ -9,10 +9,10 @@ use Rattle.std.proofs.lemmas.Slice.Eq.{bytes_eq-Decides}
 use Rattle.object_name.specs.declared.kind.Kind.{Kind}
 use Rattle.object_name.specs.declared.kind.Kind.TheVariants.{Value, Thunk}
 use Rattle.thunk_codec.specs.Maybe.{◌>>=◌}
-use Rattle.thunk_codec.specs.Reading.{behind}
+use Rattle.thunk_codec.specs.Reading.{strip_prefix}
 use Rattle.thunk_codec.specs.Reference.{is_thunk_kind}
 use Rattle.thunk_codec.proofs.Steps.{bind_some, test_some}
-use Rattle.thunk_codec.proofs.Fields.{behind_takes}
+use Rattle.thunk_codec.proofs.Fields.{strip_prefix_takes}
 use Rattle.reduction_cache.specs.Note.{NoteOf, IsNote, Note, note_text, name_line, note_head, note_end}
 use Rattle.reduction_cache.specs.Reading.{name_at, names_at, note_of}
 use Rattle.reduction_cache.proofs.Names.{name_takes, name_again, names_take, names_again}
@@ -33,17 +33,17 @@ text_before note rest = regroup note_head (name_line note.resolved) (flat_map na
 pub note_of-text : (bytes : List ℕ) (note : NoteOf) → note_of bytes ≡ Some note → Note bytes note
 unfolding note_of note_text
 note_of-text bytes note e =
-    let a = bind_some (behind note_head bytes) _ note e in
+    let a = bind_some (strip_prefix note_head bytes) _ note e in
     let b = bind_some (name_at a.0) _ note a.2 in
     let c = test_some (is_thunk_kind b.0.0.kind) _ note b.2 in
     let d = bind_some (names_at 64 b.0.1) _ note c.1 in
     let f = test_some (leb 1 (length d.0.0)) _ note d.2 in
-    let g = bind_some (behind note_end d.0.1) _ note f.1 in
+    let g = bind_some (strip_prefix note_end d.0.1) _ note f.1 in
     let h = test_some (bytes_eq g.0 []) _ note g.2 in
-    let head = behind_takes note_head bytes a.0 a.1 in
+    let head = strip_prefix_takes note_head bytes a.0 a.1 in
     let resolved = name_takes a.0 b.0 b.1 in
     let outputs = names_take 64 b.0.1 d.0 d.1 in
-    let end = behind_takes note_end d.0.1 g.0 g.1 in
+    let end = strip_prefix_takes note_end d.0.1 g.0 g.1 in
     let nothing : g.0 ≡ [] = (bytes_eq-Decides g.0 []).0 h.0 in
     let last : d.0.1 ≡ note_end = end ∙ ap (λ (v : List ℕ). note_end ++ v) nothing in
     let lines : b.0.1 ≡ flat_map name_line d.0.0 ++ note_end = outputs.text ∙ ap (λ (v : List ℕ). flat_map name_line d.0.0 ++ v) last in
@@ -78,13 +78,13 @@ same_note bytes m n g h = same_Some m n (sym (text-note_of bytes m g) ∙ text-n
 pub same_text : (a b : List ℕ) (note : NoteOf) → Note a note → Note b note → a ≡ b
 same_text a b note g h = g.text ∙ sym h.text
 
--- what stands behind a note at the front
+-- what stands behind a note at the beginning
 behind_note : List ℕ → Option (List ℕ)
 behind_note bytes = do
-  first ← behind note_head bytes
+  first ← strip_prefix note_head bytes
   resolved ← name_at first
   outputs ← names_at 64 resolved.1
-  behind note_end outputs.1
+  strip_prefix note_end outputs.1
 
 behind_note-again : (note : NoteOf) (rest : List ℕ) → IsNote note → behind_note (note_text note ++ rest) ≡ Some rest
 unfolding behind_note
@@ -93,7 +93,7 @@ behind_note-again note rest h =
     ap behind_note (text_before note rest)
     ∙ rw (name_again note.resolved lines h.resolved, names_again 64 note.outputs (note_end ++ rest) h.outputs h.few_outputs refl) refl
 
--- no proper front of a text is a text
+-- no proper prefix of a text is a text
 pub no_rest : (bytes rest : List ℕ) (m n : NoteOf) → Note bytes m → Note (bytes ++ rest) n → rest ≡ []
 no_rest bytes rest m n g h =
     let first : behind_note (bytes ++ rest) ≡ Some rest = ap (λ (v : List ℕ). behind_note (v ++ rest)) g.text ∙ behind_note-again m rest g.rules in

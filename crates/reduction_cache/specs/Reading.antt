@@ -1,17 +1,17 @@
--- Reading a note from its front, as a total function.
+-- Reading a note from its beginning, as a total function.
 use Rattle.std.specs.Prelude.{ℕ, zero, suc, List, [], ◌∷◌, take, drop, length, nat_eq, nat_le, Option, Some, bytes_eq, if◌then◌else◌}
 use Rattle.std.specs.List.{starts_with}
 use Rattle.object_name.specs.Name.{ObjectName, named_by}
 use Rattle.thunk_codec.specs.Maybe.{◌>>=◌, ◌>>◌, check}
 use Rattle.thunk_codec.specs.Reference.{is_thunk_kind}
-use Rattle.thunk_codec.specs.Reading.{behind}
+use Rattle.thunk_codec.specs.Reading.{strip_prefix}
 use Rattle.reduction_cache.specs.Note.{NoteOf, note_head, note_end}
 
 -- a name and the line feed behind it
 unfoldable pub name_at : List ℕ → Option (ObjectName × List ℕ)
 name_at bytes = do
   name ← named_by (take 52 bytes)
-  rest ← behind (10 ∷ []) (drop 52 bytes)
+  rest ← strip_prefix (10 ∷ []) (drop 52 bytes)
   Some (name, rest)
 
 -- names up to the last line, at most so many
@@ -27,11 +27,11 @@ names_at (suc most) bytes =
 -- the note whose text this is, if there is one
 unfoldable pub note_of : List ℕ → Option NoteOf
 note_of bytes = do
-  first ← behind note_head bytes
+  first ← strip_prefix note_head bytes
   resolved ← name_at first
   check (is_thunk_kind resolved.0.kind)
   outputs ← names_at 64 resolved.1
   check (nat_le 1 (length outputs.0))
-  rest ← behind note_end outputs.1
+  rest ← strip_prefix note_end outputs.1
   check (bytes_eq rest [])
   Some (record { resolved = resolved.0; outputs = outputs.0 })

@@ -15,7 +15,7 @@ pub fn one_note_text()
     ensures text { (a : List ℕ) (b : List ℕ) (note : NoteOf) → Note a note → Note b note → a ≡ b }
 {}
 
-/// No proper front of a note's text is a note's text.
-pub fn no_front()
+/// No proper prefix of a note's text is a note's text.
+pub fn no_prefix()
     ensures { (bytes : List ℕ) (rest : List ℕ) (m : NoteOf) (n : NoteOf) → Note bytes m → Note (bytes ++ rest) n → rest ≡ [] }
 {}

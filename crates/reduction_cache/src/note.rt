@@ -5,7 +5,7 @@ ghost use Rattle.std.specs.List.{flat_map, AllByRecursion};
 ghost use Rattle.object_name.specs.Name.{IsName};
 ghost use Rattle.std.specs.Option.{option_map};
 ghost use Rattle.object_name.specs.declared.kind.Kind.TheVariants.{Thunk};
-ghost use Rattle.thunk_codec.specs.Reading.{behind};
+ghost use Rattle.thunk_codec.specs.Reading.{strip_prefix};
 ghost use Rattle.reduction_cache.specs.Note.{NoteOf, Note, name_line, note_text};
 ghost use Rattle.reduction_cache.specs.Reading.{name_at, names_at, note_of};
 
@@ -56,8 +56,8 @@ pub fn encode_note(alloc: Global, resolved: &Name, outputs: &[Name]) -> Result<B
 }
 
 /// What stands behind a mark.
-fn behind<'a>(mark: &[u8], bytes: &'a [u8]) -> Option<&'a [u8]>
-    ensures { option_map (λ rest. rest.now) result ≡ behind mark.now bytes.now }
+fn strip_prefix<'a>(mark: &[u8], bytes: &'a [u8]) -> Option<&'a [u8]>
+    ensures { option_map (λ rest. rest.now) result ≡ strip_prefix mark.now bytes.now }
 {
     if bytes.starts_with(mark) {
         Some(&bytes[mark.len()..])
@@ -66,7 +66,7 @@ fn behind<'a>(mark: &[u8], bytes: &'a [u8]) -> Option<&'a [u8]>
     }
 }
 
-/// The name at the front of a line of its own, and what stands behind the line.
+/// The name at the beginning of a line of its own, and what stands behind the line.
 #[tactic(auto, unfolding(crate::specs::Reading::name_at))]
 fn name_at(bytes: &[u8]) -> Option<(Name, &[u8])>
     ensures { option_map (λ read. (read.0, read.1.now)) result ≡ name_at bytes.now }
@@ -76,7 +76,7 @@ fn name_at(bytes: &[u8]) -> Option<(Name, &[u8])>
     }
     let (spelling, rest) = bytes.split_at(SPELLING);
     let name = Name::read(spelling)?;
-    let rest = behind(b"\n", rest)?;
+    let rest = strip_prefix(b"\n", rest)?;
     Some((name, rest))
 }
 
@@ -104,7 +104,7 @@ fn names_at(alloc: Global, bytes: &[u8]) -> Result<Option<(Many<Name>, &[u8])>, 
 fn note_at(alloc: Global, bytes: &[u8]) -> Result<Option<(Name, Many<Name>)>, AllocError>
     ensures { IfOk result (λ found. option_map (λ note. record { resolved = note.0; outputs = note.1 }) found ≡ note_of bytes.now) }
 {
-    let Some(rest) = behind(b"gg-note 1\n", bytes) else {
+    let Some(rest) = strip_prefix(b"gg-note 1\n", bytes) else {
         return Ok(None);
     };
     let Some((resolved, rest)) = name_at(rest) else {
@@ -119,7 +119,7 @@ fn note_at(alloc: Global, bytes: &[u8]) -> Result<Option<(Name, Many<Name>)>, Al
     if outputs.is_empty() {
         return Ok(None);
     }
-    let Some(rest) = behind(b"end\n", rest) else {
+    let Some(rest) = strip_prefix(b"end\n", rest) else {
         return Ok(None);
     };
     if !rest.is_empty() {

@@ -5,14 +5,14 @@ use Rattle.std.proofs.lemmas.List.{take_rest}
 use Rattle.text_lines.specs.Lines.{onto}
 use Rattle.text_lines.specs.Blanks.{is_blank, at_blank, skip_blanks, before_text, without_end, words_of}
 
--- ---- the front
+-- ---- the prefix
 
 -- what does not begin with a blank is left as it is
-kept_front : (byte : ℕ) (text : List ℕ) → is_blank byte ≡ false → skip_blanks (byte ∷ text) ≡ byte ∷ text
-kept_front byte text other = rw other refl
+kept_prefix : (byte : ℕ) (text : List ℕ) → is_blank byte ≡ false → skip_blanks (byte ∷ text) ≡ byte ∷ text
+kept_prefix byte text other = rw other refl
 
-skipped_front : (byte : ℕ) (text : List ℕ) → is_blank byte ≡ true → skip_blanks (byte ∷ text) ≡ skip_blanks text
-skipped_front byte text blank = rw blank refl
+skipped_prefix : (byte : ℕ) (text : List ℕ) → is_blank byte ≡ true → skip_blanks (byte ∷ text) ≡ skip_blanks text
+skipped_prefix byte text blank = rw blank refl
 
 words_skip : (byte : ℕ) (text : List ℕ) → is_blank byte ≡ true → words_of (byte ∷ text) ≡ words_of text
 words_skip byte text blank = rw blank refl
@@ -20,8 +20,8 @@ words_skip byte text blank = rw blank refl
 pub words_behind_blanks : (text : List ℕ) → words_of (skip_blanks text) ≡ words_of text
 words_behind_blanks [] = refl
 words_behind_blanks (byte ∷ text) = elim (cases_Bool (is_blank byte)) [
-  | inl blank ↦ ap words_of (skipped_front byte text blank) ∙ words_behind_blanks text ∙ sym (words_skip byte text blank)
-  | inr other ↦ ap words_of (kept_front byte text other)
+  | inl blank ↦ ap words_of (skipped_prefix byte text blank) ∙ words_behind_blanks text ∙ sym (words_skip byte text blank)
+  | inr other ↦ ap words_of (kept_prefix byte text other)
 ]
 
 pub at_word : (text : List ℕ) → 0 < length (skip_blanks text) → at_blank (skip_blanks text) ≡ false
@@ -99,7 +99,7 @@ only_word (byte ∷ other ∷ text) starts none =
     word_goes_on byte other text starts (none 1 (omega arith))
     ∙ ap (onto byte) (only_word (other ∷ text) (none 1 (omega arith)) (no_blank_behind byte (other ∷ text) (length (other ∷ text)) none))
 
--- ---- the first word behind the blanks at the front
+-- ---- the first word behind the blanks at the beginning
 
 pub no_word : (line text : List ℕ) → text ≡ skip_blanks line → length text ≡ 0 → words_of line ≡ []
 no_word line [] is none = sym (words_behind_blanks line) ∙ ap words_of (sym is)

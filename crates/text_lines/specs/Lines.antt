@@ -1,7 +1,7 @@
 -- A text as lines.
 use Rattle.std.specs.Prelude.{ℕ, List, [], ◌∷◌, ◌==◌, if◌then◌else◌}
 
--- a byte at the front of the first piece
+-- a byte at the beginning of the first piece
 abbrev pub onto : ℕ → List (List ℕ) → List (List ℕ)
 onto byte [] = (byte ∷ []) ∷ []
 onto byte (piece ∷ pieces) = (byte ∷ piece) ∷ pieces

@@ -10,7 +10,7 @@ pub fn is_blank(byte: u8) -> bool
     byte == b' ' || byte == b'\t'
 }
 
-/// What stands behind the blanks at the front.
+/// What stands behind the blanks at the beginning.
 pub fn skip_blanks(text: &[u8]) -> &[u8]
     ensures { result.now ≡ skip_blanks text.now }
 {
@@ -45,8 +45,8 @@ pub fn trim_blanks(text: &[u8]) -> &[u8]
     without_end(skip_blanks(text))
 }
 
-/// The word at the front, and what stands behind it.
-fn front_word(text: &[u8]) -> (&[u8], &[u8])
+/// The word at the beginning, and what stands behind it.
+fn first_word(text: &[u8]) -> (&[u8], &[u8])
     requires { at_blank text.now ≡ false }
     ensures words { words_of text.now ≡ result.0.now ∷ words_of result.1.now }
     ensures shorter { length result.1.now < length text.now }
@@ -68,5 +68,5 @@ pub fn next_word(line: &[u8]) -> Option<(&[u8], &[u8])>
     if text.is_empty() {
         return None;
     }
-    Some(front_word(text))
+    Some(first_word(text))
 }

@@ -1,4 +1,4 @@
--- What is read from the front of a text stands there, and what stands there is read.
+-- What is read from the prefix of a text stands there, and what stands there is read.
 use Rattle.std.proofs.Common.{◌≡◌, ℕ, suc, ◌^◌, ◌<◌, ◌≤◌, Bool, true, not, eqb, leb, List, [], ◌∷◌, ◌++◌, length, take, drop, get_or, length-append, append_assoc, Option, Some, None, ◌-◌, ◌+◌, refl, sym, ap, subst, ◌∙◌, arith, inl, inr}
 use Rattle.std.specs.Prelude.{decimal, nat_eq, ◌==◌}
 use Rattle.std.specs.List.{list_all, starts_with}
@@ -16,17 +16,17 @@ use Rattle.thunk_codec.specs.declared.reference.Ref.TheVariants.{Value, Out}
 use Rattle.thunk_codec.specs.Maybe.{◌>>=◌, ◌>>◌}
 use Rattle.thunk_codec.specs.Reference.{IsRef, ref_text, ref_of}
 use Rattle.thunk_codec.specs.Thunk.{counted}
-use Rattle.thunk_codec.specs.Reading.{behind, with_byte, split_at_byte, counted_at, ref_at, bytes_at, env_at, input_at}
+use Rattle.thunk_codec.specs.Reading.{strip_prefix, with_byte, split_at_byte, counted_at, ref_at, bytes_at, env_at, input_at}
 use Rattle.thunk_codec.proofs.Steps.{bind_some, test_some}
 use Rattle.thunk_codec.proofs.References.{ref_spelled, ref_again}
 
 -- ---- marks
 
-pub behind_takes : (mark bytes rest : List ℕ) → behind mark bytes ≡ Some rest → bytes ≡ mark ++ rest
-behind_takes mark bytes rest e =
+pub strip_prefix_takes : (mark bytes rest : List ℕ) → strip_prefix mark bytes ≡ Some rest → bytes ≡ mark ++ rest
+strip_prefix_takes mark bytes rest e =
     let a = test_some (starts_with nat_eq bytes mark) (Some (drop (length mark) bytes)) rest e in
-    let front : mark ≡ take (length mark) bytes = (bytes_eq-Decides mark (take (length mark) bytes)).0 a.0 in
-    sym (take-append-drop (length mark) bytes) ∙ ap (λ (v : List ℕ). v ++ drop (length mark) bytes) (sym front) ∙ ap (λ (v : List ℕ). mark ++ v) (same_Some _ rest a.1)
+    let prefix : mark ≡ take (length mark) bytes = (bytes_eq-Decides mark (take (length mark) bytes)).0 a.0 in
+    sym (take-append-drop (length mark) bytes) ∙ ap (λ (v : List ℕ). v ++ drop (length mark) bytes) (sym prefix) ∙ ap (λ (v : List ℕ). mark ++ v) (same_Some _ rest a.1)
 
 -- ---- up to a byte
 
@@ -48,12 +48,12 @@ split_takes stop (byte ∷ bytes) x e =
           subst (λ (v : List ℕ × List ℕ). (byte ∷ bytes ≡ v.0 ++ stop ∷ v.1) × (has_no stop v.0 ≡ true)) (same_Some _ x a.2) (ap (λ (v : List ℕ). byte ∷ v) others.0, and_from _ _ (not_from_false _ goes) others.1)
     ]
 
-pub split_again : (stop : ℕ) (front rest : List ℕ) → has_no stop front ≡ true → split_at_byte stop (front ++ stop ∷ rest) ≡ Some (front, rest)
+pub split_again : (stop : ℕ) (prefix rest : List ℕ) → has_no stop prefix ≡ true → split_at_byte stop (prefix ++ stop ∷ rest) ≡ Some (prefix, rest)
 unfolding split_at_byte
 split_again stop [] rest h = rw (eq-eqb stop stop refl) refl
-split_again stop (byte ∷ front) rest h =
-    let parts = and_parts (not (eqb byte stop)) (has_no stop front) h in
-    rw (not-true _ parts.0, split_again stop front rest parts.1) refl
+split_again stop (byte ∷ prefix) rest h =
+    let parts = and_parts (not (eqb byte stop)) (has_no stop prefix) h in
+    rw (not-true _ parts.0, split_again stop prefix rest parts.1) refl
 
 split_none : (stop : ℕ) (bytes : List ℕ) → has_no stop bytes ≡ true → split_at_byte stop bytes ≡ None
 unfolding split_at_byte
@@ -87,9 +87,9 @@ counted_takes bytes x e =
     let c = test_some (leb b.0 (length a.0.1)) (Some (take b.0 a.0.1, drop b.0 a.0.1)) x b.2 in
     let split = split_takes 58 bytes a.0 a.1 in
     let len : length (take b.0 a.0.1) ≡ b.0 = omega (arith, length-take b.0 a.0.1, leb-true _ _ c.0) in
-    let front : a.0.0 ≡ decimal (length (take b.0 a.0.1)) = (decimal-number_of a.0.0 b.0 b.1).1 ∙ ap decimal (sym len) in
+    let prefix : a.0.0 ≡ decimal (length (take b.0 a.0.1)) = (decimal-number_of a.0.0 b.0 b.1).1 ∙ ap decimal (sym len) in
     let whole : bytes ≡ counted (take b.0 a.0.1) ++ drop b.0 a.0.1 =
-    split.0 ∙ ap (λ (v : List ℕ). v ++ 58 ∷ a.0.1) front ∙ ap (λ (v : List ℕ). decimal (length (take b.0 a.0.1)) ++ 58 ∷ v) (sym (take-append-drop b.0 a.0.1))
+    split.0 ∙ ap (λ (v : List ℕ). v ++ 58 ∷ a.0.1) prefix ∙ ap (λ (v : List ℕ). decimal (length (take b.0 a.0.1)) ++ 58 ∷ v) (sym (take-append-drop b.0 a.0.1))
     ∙ sym (append_assoc (decimal (length (take b.0 a.0.1))) (58 ∷ take b.0 a.0.1) (drop b.0 a.0.1)) in
     subst (λ (v : List ℕ × List ℕ). bytes ≡ counted v.0 ++ v.1) (same_Some _ x c.1) whole
 
@@ -139,10 +139,10 @@ IsShort text = length text < 2 ^ 64
 bytes_take : (bytes : List ℕ) (x : List ℕ × List ℕ) → bytes_at bytes ≡ Some x → bytes ≡ counted x.0 ++ 10 ∷ x.1
 unfolding bytes_at
 bytes_take bytes x e =
-    let a = bind_some (counted_at bytes) (λ said. behind (10 ∷ []) said.1 >>= λ rest. Some (said.0, rest)) x e in
-    let b = bind_some (behind (10 ∷ []) a.0.1) (λ rest. Some (a.0.0, rest)) x a.2 in
+    let a = bind_some (counted_at bytes) (λ said. strip_prefix (10 ∷ []) said.1 >>= λ rest. Some (said.0, rest)) x e in
+    let b = bind_some (strip_prefix (10 ∷ []) a.0.1) (λ rest. Some (a.0.0, rest)) x a.2 in
     let first = counted_takes bytes a.0 a.1 in
-    let second = behind_takes (10 ∷ []) a.0.1 b.0 b.1 in
+    let second = strip_prefix_takes (10 ∷ []) a.0.1 b.0 b.1 in
     subst (λ (v : List ℕ × List ℕ). bytes ≡ counted v.0 ++ 10 ∷ v.1) (same_Some _ x b.2) (first ∙ ap (λ (v : List ℕ). counted a.0.0 ++ v) second)
 
 bytes_again : (text rest : List ℕ) → IsShort text → bytes_at (counted text ++ 10 ∷ rest) ≡ Some (text, rest)
@@ -183,11 +183,11 @@ input_said input = counted input.0 ++ 32 ∷ ref_text input.1
 input_take : (bytes : List ℕ) (x : (List ℕ × Ref) × List ℕ) → input_at bytes ≡ Some x → (bytes ≡ input_said x.0 ++ 10 ∷ x.1) × IsRef x.0.1
 unfolding input_at
 input_take bytes x e =
-    let a = bind_some (counted_at bytes) (λ path. behind (32 ∷ []) path.1 >>= λ text. ref_at text >>= λ ref. Some ((path.0, ref.0), ref.1)) x e in
-    let b = bind_some (behind (32 ∷ []) a.0.1) (λ text. ref_at text >>= λ ref. Some ((a.0.0, ref.0), ref.1)) x a.2 in
+    let a = bind_some (counted_at bytes) (λ path. strip_prefix (32 ∷ []) path.1 >>= λ text. ref_at text >>= λ ref. Some ((path.0, ref.0), ref.1)) x e in
+    let b = bind_some (strip_prefix (32 ∷ []) a.0.1) (λ text. ref_at text >>= λ ref. Some ((a.0.0, ref.0), ref.1)) x a.2 in
     let d = bind_some (ref_at b.0) (λ ref. Some ((a.0.0, ref.0), ref.1)) x b.2 in
     let first = counted_takes bytes a.0 a.1 in
-    let second = behind_takes (32 ∷ []) a.0.1 b.0 b.1 in
+    let second = strip_prefix_takes (32 ∷ []) a.0.1 b.0 b.1 in
     let third = ref_takes b.0 d.0 d.1 in
     let whole : bytes ≡ input_said (a.0.0, d.0.0) ++ 10 ∷ d.0.1 =
     first ∙ ap (λ (v : List ℕ). counted a.0.0 ++ v) second ∙ ap (λ (v : List ℕ). counted a.0.0 ++ 32 ∷ v) third.0

@@ -207,13 +207,13 @@ parent_is_folder path h =
 -- ---- a path seen from its folder
 
 -- from the root a text has its own path
-root_front : (text : List ℕ) → is_slash (get_or text 0 0) ≡ false → components_of (46 ∷ 47 ∷ text) ≡ components_of text
+root_prefix : (text : List ℕ) → is_slash (get_or text 0 0) ≡ false → components_of (46 ∷ 47 ∷ text) ≡ components_of text
 unfolding components_of after_pieces
-root_front text h = rw h refl
+root_prefix text h = rw h refl
 
 pub root_path : (text : List ℕ) → is_slash (get_or text 0 0) ≡ false → path_of (46 ∷ 47 ∷ text) ≡ path_of text
 unfolding path_of
-root_path text h = rw (root_front text h) refl
+root_path text h = rw (root_prefix text h) refl
 
 seen_from : (before last path : List ℕ) → path ≡ with_component before last → is_path path ≡ true → is_slash (get_or last 0 0) ≡ false → path_of (folder_text before ++ 47 ∷ last) ≡ Some path
 seen_from [] last path e h start = root_path last start ∙ ap path_of (sym e) ∙ path_of-is_path path h

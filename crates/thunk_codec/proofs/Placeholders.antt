@@ -11,17 +11,17 @@ use Rattle.thunk_codec.specs.declared.reference.Ref.{Ref}
 use Rattle.thunk_codec.specs.declared.reference.Ref.TheVariants.{Value, Out}
 use Rattle.thunk_codec.specs.Maybe.{◌>>=◌}
 use Rattle.thunk_codec.specs.Reference.{IsRef, ref_text, ref_of}
-use Rattle.thunk_codec.specs.Reading.{behind}
+use Rattle.thunk_codec.specs.Reading.{strip_prefix}
 use Rattle.thunk_codec.specs.Placeholder.{IsPlaceholder, before_feed, output_of, placeholder_of}
 use Rattle.thunk_codec.proofs.Steps.{bind_some, test_some}
 use Rattle.thunk_codec.proofs.References.{ref_spelled, ref_again}
-use Rattle.thunk_codec.proofs.Fields.{behind_takes}
+use Rattle.thunk_codec.proofs.Fields.{strip_prefix_takes}
 
 -- the first line
 abbrev first_line : List ℕ
 first_line = codes "gg-placeholder 1" ++ 10 ∷ []
 
-mark_again : (mark rest : List ℕ) → behind mark (mark ++ rest) ≡ Some rest
+mark_again : (mark rest : List ℕ) → strip_prefix mark (mark ++ rest) ≡ Some rest
 mark_again mark rest =
     let starts : starts_with nat_eq (mark ++ rest) mark ≡ true = (starts_is Decides-eqb (mark ++ rest) mark _ refl).1 rest refl in
     rw starts (ap (λ (v : List ℕ). Some v) (drop_at mark rest (length mark) refl))
@@ -44,18 +44,18 @@ output_is (Out name index) read e = ap (λ (v : ObjectName × ℕ). Out v.0 v.1)
 pub placeholder_taken : (bytes : List ℕ) (read : ObjectName × ℕ) → placeholder_of bytes ≡ Some read → IsPlaceholder bytes read.0 read.1
 unfolding placeholder_of
 placeholder_taken bytes read e =
-    let a = bind_some (behind first_line bytes) (λ line. before_feed line >>= λ text. ref_of text >>= λ ref. output_of ref) read e in
+    let a = bind_some (strip_prefix first_line bytes) (λ line. before_feed line >>= λ text. ref_of text >>= λ ref. output_of ref) read e in
     let b = bind_some (before_feed a.0) (λ text. ref_of text >>= λ ref. output_of ref) read a.2 in
     let c = bind_some (ref_of b.0) (λ ref. output_of ref) read b.2 in
     let r = output_is c.0 read c.2 in
     let spelled = subst (λ (v : Ref). IsRef v × (b.0 ≡ ref_text v)) r (ref_spelled b.0 c.0 c.1) in
     record {
       output = spelled.0;
-      text = behind_takes first_line bytes a.0 a.1 ∙ ap (λ (v : List ℕ). first_line ++ v) (feed_takes a.0 b.0 b.1 ∙ ap (λ (v : List ℕ). v ++ 10 ∷ []) spelled.1);
+      text = strip_prefix_takes first_line bytes a.0 a.1 ∙ ap (λ (v : List ℕ). first_line ++ v) (feed_takes a.0 b.0 b.1 ∙ ap (λ (v : List ℕ). v ++ 10 ∷ []) spelled.1);
     }
 
-read_by : (mark bytes line text : List ℕ) (r : Ref) (read : ObjectName × ℕ) → behind mark bytes ≡ Some line → before_feed line ≡ Some text → ref_of text ≡ Some r → output_of r ≡ Some read
-    → (behind mark bytes >>= λ line. before_feed line >>= λ text. ref_of text >>= λ ref. output_of ref) ≡ Some read
+read_by : (mark bytes line text : List ℕ) (r : Ref) (read : ObjectName × ℕ) → strip_prefix mark bytes ≡ Some line → before_feed line ≡ Some text → ref_of text ≡ Some r → output_of r ≡ Some read
+    → (strip_prefix mark bytes >>= λ line. before_feed line >>= λ text. ref_of text >>= λ ref. output_of ref) ≡ Some read
 read_by mark bytes line text r read first feed ref output =
     ap (λ (v : Option (List ℕ)). v >>= λ line. before_feed line >>= λ text. ref_of text >>= λ ref. output_of ref) first
     ∙ ap (λ (v : Option (List ℕ)). v >>= λ text. ref_of text >>= λ ref. output_of ref) feed
@@ -66,7 +66,7 @@ pub placeholder_again : (bytes : List ℕ) (name : ObjectName) (index : ℕ) →
 unfolding placeholder_of
 placeholder_again bytes name index h =
     let text = ref_text (Out name index) in
-    read_by first_line bytes (text ++ 10 ∷ []) text (Out name index) (name, index) (ap (behind first_line) h.text ∙ mark_again first_line (text ++ 10 ∷ [])) (feed_again text) (ref_again (Out name index) h.output) refl
+    read_by first_line bytes (text ++ 10 ∷ []) text (Out name index) (name, index) (ap (strip_prefix first_line) h.text ∙ mark_again first_line (text ++ 10 ∷ [])) (feed_again text) (ref_again (Out name index) h.output) refl
 
 pub placeholder_found : (bytes : List ℕ) (found : Option (ObjectName × ℕ)) → found ≡ placeholder_of bytes → IfSome found (λ read. IsPlaceholder bytes read.0 read.1)
 placeholder_found bytes None e = tt

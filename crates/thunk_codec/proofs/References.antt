@@ -69,12 +69,12 @@ ref_again (Value name) h =
 ref_again (Out name index) h =
     let len = length-spelling name h.0 in
     let long : leb (length (spelling name ++ 35 ∷ decimal index)) 52 ≡ false = lt-leb _ _ (omega (arith, len, length-append (spelling name) (35 ∷ decimal index))) in
-    let front : take 52 (spelling name ++ 35 ∷ decimal index) ≡ spelling name = take_at (spelling name) (35 ∷ decimal index) 52 len in
+    let prefix : take 52 (spelling name ++ 35 ∷ decimal index) ≡ spelling name = take_at (spelling name) (35 ∷ decimal index) 52 len in
     let mark : get_or (spelling name ++ 35 ∷ decimal index) 52 0 ≡ 35 = get_or_at (spelling name) 35 (decimal index) 0 52 len in
     let rest : drop 53 (spelling name ++ 35 ∷ decimal index) ≡ decimal index = ap (drop 53) (sym (append_assoc (spelling name) (35 ∷ []) (decimal index))) ∙ drop_at (spelling name ++ 35 ∷ []) (decimal index) 53 (length-append (spelling name) (35 ∷ []) ∙ omega (arith, len)) in
     let small : ltb index (2 ^ 32) ≡ true = lt-ltb _ _ h.2 in
     let kind : is_thunk_kind name.kind ≡ true = ap is_thunk_kind h.1 in
-    rw (long, front, named_by-spelling name h.0, kind, eq-eqb _ _ mark, rest, number_of-decimal index (omega (arith, h.2)), small) refl
+    rw (long, prefix, named_by-spelling name h.0, kind, eq-eqb _ _ mark, rest, number_of-decimal index (omega (arith, h.2)), small) refl
 
 -- two REFs with one text are one
 pub same_ref : (r s : Ref) → IsRef r → IsRef s → ref_text r ≡ ref_text s → r ≡ s

@@ -10,7 +10,7 @@ use Rattle.thunk_codec.specs.declared.reference.Ref.{Ref}
 use Rattle.thunk_codec.specs.declared.reference.Ref.TheVariants.{Value, Out}
 use Rattle.thunk_codec.specs.Path.{is_path}
 use Rattle.thunk_codec.specs.Reference.{IsRef, ref_text}
-use Rattle.thunk_codec.specs.Thunk.{Parts, IsThunk, text_of, head_line, end_line, counted, function_line, arg_line, env_line, input_line, output_line, rises}
+use Rattle.thunk_codec.specs.Thunk.{Parts, IsThunk, text_of, head_line, end_line, counted, function_line, arg_line, env_line, input_line, output_line, is_strictly_increasing}
 use Rattle.thunk_codec.specs.Resolved.{refs_of, with_values, resolved_by, AreNames, HaveValueKind}
 
 with_one-more : (inputs : List (List ℕ × Ref)) (values : List ObjectName) (i : ℕ) (d : List ℕ × Ref) (e : ObjectName) → i < length inputs → i < length values
@@ -104,7 +104,7 @@ resolved_is_thunk t (value ∷ values) rules names kinds =
       keys_rise = rules.keys_rise;
       input_refs = with_values-refs t.inputs values rules.input_refs names.1 kinds.1;
       input_paths = subst (λ (v : List (List ℕ)). IsTrue (list_all is_path v)) paths rules.input_paths;
-      paths_rise = subst (λ (v : List (List ℕ)). IsTrue (rises v)) paths rules.paths_rise;
+      paths_rise = subst (λ (v : List (List ℕ)). IsTrue (is_strictly_increasing v)) paths rules.paths_rise;
       few_inputs = omega (arith, rules.few_inputs, with_values-count t.inputs values);
       output_paths = rules.output_paths;
       outputs_differ = rules.outputs_differ;

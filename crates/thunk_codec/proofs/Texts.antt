@@ -12,9 +12,9 @@ use Rattle.thunk_codec.specs.Maybe.{◌>>=◌}
 use Rattle.thunk_codec.specs.Reference.{IsRef, ref_text}
 use Rattle.thunk_codec.specs.Thunk.{Parts, line, counted, head_line, end_line, function_line, arg_line, env_line, input_line, output_line, text_of}
 use Rattle.thunk_codec.specs.Raw.{HasRefs}
-use Rattle.thunk_codec.specs.Reading.{behind, ref_at, bytes_at, env_at, input_at, lines_at, all_lines_at, parts_at}
+use Rattle.thunk_codec.specs.Reading.{strip_prefix, ref_at, bytes_at, env_at, input_at, lines_at, all_lines_at, parts_at}
 use Rattle.thunk_codec.proofs.Steps.{bind_some}
-use Rattle.thunk_codec.proofs.Fields.{IsReader, IsShort, IsPair, IsInput, env_said, input_said, behind_takes, ref_takes, ref_at-again, bytes_reader, env_reader, input_reader}
+use Rattle.thunk_codec.proofs.Fields.{IsReader, IsShort, IsPair, IsInput, env_said, input_said, strip_prefix_takes, ref_takes, ref_at-again, bytes_reader, env_reader, input_reader}
 
 -- lines of a letter
 abbrev pub lines_of : {A : Type 0} → ℕ → (A → List ℕ) → List A → List ℕ
@@ -26,8 +26,8 @@ begins letter bytes = starts_with nat_eq bytes (letter ∷ 32 ∷ [])
 
 pub begins_with : (letter : ℕ) (bytes : List ℕ) → begins letter bytes ≡ true → bytes ≡ letter ∷ 32 ∷ drop 2 bytes
 begins_with letter bytes h =
-    let front : letter ∷ 32 ∷ [] ≡ take 2 bytes = (bytes_eq-Decides (letter ∷ 32 ∷ []) (take 2 bytes)).0 h in
-    sym (take-append-drop 2 bytes) ∙ ap (λ (v : List ℕ). v ++ drop 2 bytes) (sym front)
+    let prefix : letter ∷ 32 ∷ [] ≡ take 2 bytes = (bytes_eq-Decides (letter ∷ 32 ∷ []) (take 2 bytes)).0 h in
+    sym (take-append-drop 2 bytes) ∙ ap (λ (v : List ℕ). v ++ drop 2 bytes) (sym prefix)
 
 begins_again : (letter : ℕ) (rest : List ℕ) → begins letter (letter ∷ 32 ∷ rest) ≡ true
 begins_again letter rest = (bytes_eq-Decides (letter ∷ 32 ∷ []) (letter ∷ 32 ∷ [])).1 refl
@@ -117,27 +117,27 @@ record IsRead (bytes : List ℕ) (x : Parts × List ℕ) : Type 0 where
   inputs : List (List ℕ × Ref) × List ℕ
   outputs : List (List ℕ) × List ℕ
   rest : List ℕ
-  first_is : behind head_line bytes ≡ Some first
-  letter_is : behind (102 ∷ 32 ∷ []) first ≡ Some letter
+  first_is : strip_prefix head_line bytes ≡ Some first
+  letter_is : strip_prefix (102 ∷ 32 ∷ []) first ≡ Some letter
   function_is : ref_at letter ≡ Some function
   args_is : all_lines_at 97 bytes_at function.1 ≡ Some args
   envs_is : all_lines_at 101 env_at args.1 ≡ Some envs
   inputs_is : all_lines_at 105 input_at envs.1 ≡ Some inputs
   outputs_is : all_lines_at 111 bytes_at inputs.1 ≡ Some outputs
-  rest_is : behind end_line outputs.1 ≡ Some rest
+  rest_is : strip_prefix end_line outputs.1 ≡ Some rest
   whole : (record { function = function.0; args = args.0; envs = envs.0; inputs = inputs.0; outputs = outputs.0 }, rest) ≡ x
 
 parts_read : (bytes : List ℕ) (x : Parts × List ℕ) → parts_at bytes ≡ Some x → IsRead bytes x
 unfolding parts_at
 parts_read bytes x e =
-    let a = bind_some (behind head_line bytes) _ x e in
-    let b = bind_some (behind (102 ∷ 32 ∷ []) a.0) _ x a.2 in
+    let a = bind_some (strip_prefix head_line bytes) _ x e in
+    let b = bind_some (strip_prefix (102 ∷ 32 ∷ []) a.0) _ x a.2 in
     let c = bind_some (ref_at b.0) _ x b.2 in
     let d = bind_some (all_lines_at 97 bytes_at c.0.1) _ x c.2 in
     let f = bind_some (all_lines_at 101 env_at d.0.1) _ x d.2 in
     let g = bind_some (all_lines_at 105 input_at f.0.1) _ x f.2 in
     let h = bind_some (all_lines_at 111 bytes_at g.0.1) _ x g.2 in
-    let i = bind_some (behind end_line h.0.1) _ x h.2 in
+    let i = bind_some (strip_prefix end_line h.0.1) _ x h.2 in
     record {
       first = a.0;
       letter = b.0;
@@ -162,14 +162,14 @@ pub parts_take : (bytes : List ℕ) (x : Parts × List ℕ) → parts_at bytes �
 parts_take bytes x e =
     let r = parts_read bytes x e in
     let t : Parts = record { function = r.function.0; args = r.args.0; envs = r.envs.0; inputs = r.inputs.0; outputs = r.outputs.0 } in
-    let head = behind_takes head_line bytes r.first r.first_is in
-    let mark = behind_takes (102 ∷ 32 ∷ []) r.first r.letter r.letter_is in
+    let head = strip_prefix_takes head_line bytes r.first r.first_is in
+    let mark = strip_prefix_takes (102 ∷ 32 ∷ []) r.first r.letter r.letter_is in
     let function = ref_takes r.letter r.function r.function_is in
     let args = lines_take bytes_reader 97 (length r.function.1) r.function.1 r.args r.args_is in
     let envs = lines_take env_reader 101 (length r.args.1) r.args.1 r.envs r.envs_is in
     let inputs = lines_take input_reader 105 (length r.envs.1) r.envs.1 r.inputs r.inputs_is in
     let outputs = lines_take bytes_reader 111 (length r.inputs.1) r.inputs.1 r.outputs r.outputs_is in
-    let end = behind_takes end_line r.outputs.1 r.rest r.rest_is in
+    let end = strip_prefix_takes end_line r.outputs.1 r.rest r.rest_is in
     let outputs_all = outputs.0 ∙ ap (λ (v : List ℕ). flat_map output_line r.outputs.0 ++ v) end in
     let inputs_all = inputs.0 ∙ ap (λ (v : List ℕ). flat_map input_line r.inputs.0 ++ v) outputs_all in
     let envs_all = envs.0 ∙ ap (λ (v : List ℕ). flat_map env_line r.envs.0 ++ v) inputs_all in

@@ -12,7 +12,7 @@ use Rattle.thunk_codec.specs.declared.reference.Ref.{Ref}
 use Rattle.thunk_codec.specs.Maybe.{◌>>◌}
 use Rattle.thunk_codec.specs.Path.{is_path}
 use Rattle.thunk_codec.specs.Reference.{IsRef}
-use Rattle.thunk_codec.specs.Thunk.{Parts, IsThunk, Text, text_of, counted, arg_line, env_line, input_line, output_line, has_no_zero, is_letter, is_digit, is_identifier, rises, are_distinct}
+use Rattle.thunk_codec.specs.Thunk.{Parts, IsThunk, Text, text_of, counted, arg_line, env_line, input_line, output_line, has_no_zero, is_letter, is_digit, is_identifier, is_strictly_increasing, are_distinct}
 use Rattle.thunk_codec.specs.Raw.{HasRefs}
 use Rattle.thunk_codec.specs.Reading.{parts_at, keeps_rules, thunk_of}
 use Rattle.thunk_codec.proofs.Steps.{bind_some, test_some}
@@ -91,9 +91,9 @@ rules_from t refs size h =
     let a = and_parts (list_all has_no_zero t.args) _ h in
     let b = and_parts (list_all is_identifier (map (λ env. env.0) t.envs)) _ a.1 in
     let c = and_parts (list_all has_no_zero (map (λ env. env.1) t.envs)) _ b.1 in
-    let d = and_parts (rises (map (λ env. env.0) t.envs)) _ c.1 in
+    let d = and_parts (is_strictly_increasing (map (λ env. env.0) t.envs)) _ c.1 in
     let e = and_parts (list_all is_path (map (λ input. input.0) t.inputs)) _ d.1 in
-    let f = and_parts (rises (map (λ input. input.0) t.inputs)) _ e.1 in
+    let f = and_parts (is_strictly_increasing (map (λ input. input.0) t.inputs)) _ e.1 in
     let g = and_parts (leb (length t.inputs) 4096) _ f.1 in
     let i = and_parts (list_all is_path t.outputs) _ g.1 in
     let j = and_parts (are_distinct t.outputs) _ i.1 in
@@ -152,7 +152,7 @@ same_thunk bytes t u h g = same_Some t u (sym (text-thunk_of bytes t h) ∙ text
 pub same_text : (a b : List ℕ) (t : Parts) → Text a t → Text b t → a ≡ b
 same_text a b t h g = h.text ∙ sym g.text
 
--- no proper front of a text is a text
+-- no proper prefix of a text is a text
 pub no_rest : (bytes rest : List ℕ) (t u : Parts) → Text bytes t → Text (bytes ++ rest) u → rest ≡ []
 no_rest bytes rest t u h g =
     let first : parts_at (bytes ++ rest) ≡ Some (t, rest) = ap (λ (v : List ℕ). parts_at (v ++ rest)) h.text ∙ parts_again t rest (thunk_readable t h.rules) in

@@ -6,7 +6,7 @@ use Rattle.thunk_codec.specs.declared.reference.Ref.{Ref}
 use Rattle.thunk_codec.specs.declared.reference.Ref.TheVariants.{Value, Out}
 use Rattle.thunk_codec.specs.Maybe.{◌>>=◌, ◌>>◌, check}
 use Rattle.thunk_codec.specs.Reference.{IsRef, ref_text, ref_of}
-use Rattle.thunk_codec.specs.Reading.{behind}
+use Rattle.thunk_codec.specs.Reading.{strip_prefix}
 
 -- the text: `gg-placeholder 1`, and the REF, each in a line
 abbrev pub placeholder_text : ObjectName → ℕ → List ℕ
@@ -31,7 +31,7 @@ output_of (Out name index) = Some (name, index)
 -- the output whose placeholder's text this is, if there is one
 unfoldable pub placeholder_of : List ℕ → Option (ObjectName × ℕ)
 placeholder_of bytes = do
-  line ← behind (codes "gg-placeholder 1" ++ 10 ∷ []) bytes
+  line ← strip_prefix (codes "gg-placeholder 1" ++ 10 ∷ []) bytes
   text ← before_feed line
   ref ← ref_of text
   output_of ref

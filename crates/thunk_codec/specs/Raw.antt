@@ -3,7 +3,7 @@ use Rattle.std.specs.Prelude.{◌&&◌, nat_le, Bool, length, map}
 use Rattle.std.specs.List.{list_all, AllByRecursion}
 use Rattle.thunk_codec.specs.declared.parts.RawParts.{RawParts}
 use Rattle.thunk_codec.specs.Reference.{IsRef}
-use Rattle.thunk_codec.specs.Thunk.{Parts, has_no_zero, is_identifier, rises, are_distinct}
+use Rattle.thunk_codec.specs.Thunk.{Parts, has_no_zero, is_identifier, is_strictly_increasing, are_distinct}
 
 -- the parts
 abbrev pub parts_of : RawParts → Parts
@@ -20,7 +20,7 @@ keeps_bytes t = list_all has_no_zero t.args
 
 -- the rules on orders
 abbrev pub keeps_orders : Parts → Bool
-keeps_orders t = rises (map (λ env. env.0) t.envs) && (rises (map (λ input. input.0) t.inputs) && are_distinct t.outputs)
+keeps_orders t = is_strictly_increasing (map (λ env. env.0) t.envs) && (is_strictly_increasing (map (λ input. input.0) t.inputs) && are_distinct t.outputs)
 
 -- the REFs are REFs
 pub record HasRefs (t : Parts) : Type 0 where

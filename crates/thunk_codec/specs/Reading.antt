@@ -1,4 +1,4 @@
--- Reading a thunk's text from its front, as a total function.
+-- Reading a thunk's text from its beginning, as a total function.
 use Rattle.std.specs.Prelude.{ℕ, zero, suc, List, [], ◌∷◌, length, map, take, drop, nat_eq, nat_le, ◌==◌, ◌&&◌, Bool, Option, Some, None, bytes_eq, if◌then◌else◌}
 use Rattle.std.specs.List.{starts_with, list_all}
 use Rattle.object_name.specs.Number.{number_of}
@@ -7,11 +7,11 @@ use Rattle.thunk_codec.specs.declared.reference.Ref.{Ref}
 use Rattle.thunk_codec.specs.Maybe.{◌>>=◌, ◌>>◌, check}
 use Rattle.thunk_codec.specs.Path.{is_path}
 use Rattle.thunk_codec.specs.Reference.{ref_of}
-use Rattle.thunk_codec.specs.Thunk.{Parts, head_line, end_line, has_no_zero, is_identifier, rises, are_distinct}
+use Rattle.thunk_codec.specs.Thunk.{Parts, head_line, end_line, has_no_zero, is_identifier, is_strictly_increasing, are_distinct}
 
 -- what stands behind a mark
-abbrev pub behind : List ℕ → List ℕ → Option (List ℕ)
-behind mark bytes = do
+abbrev pub strip_prefix : List ℕ → List ℕ → Option (List ℕ)
+strip_prefix mark bytes = do
   check (starts_with nat_eq bytes mark)
   Some (drop (length mark) bytes)
 
@@ -44,7 +44,7 @@ ref_at bytes = do
 unfoldable pub bytes_at : List ℕ → Option (List ℕ × List ℕ)
 bytes_at bytes = do
   said ← counted_at bytes
-  rest ← behind (10 ∷ []) said.1
+  rest ← strip_prefix (10 ∷ []) said.1
   Some (said.0, rest)
 
 -- what an `e` line says behind its letter
@@ -58,7 +58,7 @@ env_at bytes = do
 unfoldable pub input_at : List ℕ → Option ((List ℕ × Ref) × List ℕ)
 input_at bytes = do
   path ← counted_at bytes
-  text ← behind (32 ∷ []) path.1
+  text ← strip_prefix (32 ∷ []) path.1
   ref ← ref_at text
   Some ((path.0, ref.0), ref.1)
 
@@ -79,14 +79,14 @@ all_lines_at letter said_at bytes = lines_at letter said_at (length bytes) bytes
 -- the parts that a text lists, whatever rules they break, and the bytes behind it
 unfoldable pub parts_at : List ℕ → Option (Parts × List ℕ)
 parts_at bytes = do
-  first ← behind head_line bytes
-  letter ← behind (102 ∷ 32 ∷ []) first
+  first ← strip_prefix head_line bytes
+  letter ← strip_prefix (102 ∷ 32 ∷ []) first
   function ← ref_at letter
   args ← all_lines_at 97 bytes_at function.1
   envs ← all_lines_at 101 env_at args.1
   inputs ← all_lines_at 105 input_at envs.1
   outputs ← all_lines_at 111 bytes_at inputs.1
-  rest ← behind end_line outputs.1
+  rest ← strip_prefix end_line outputs.1
   Some (record { function = function.0; args = args.0; envs = envs.0; inputs = inputs.0; outputs = outputs.0 }, rest)
 
 -- the rules on environments, inputs and outputs
@@ -95,9 +95,9 @@ keeps_rules t =
     list_all has_no_zero t.args
     && (list_all is_identifier (map (λ env. env.0) t.envs)
     && (list_all has_no_zero (map (λ env. env.1) t.envs)
-    && (rises (map (λ env. env.0) t.envs)
+    && (is_strictly_increasing (map (λ env. env.0) t.envs)
     && (list_all is_path (map (λ input. input.0) t.inputs)
-    && (rises (map (λ input. input.0) t.inputs)
+    && (is_strictly_increasing (map (λ input. input.0) t.inputs)
     && (nat_le (length t.inputs) 4096
     && (list_all is_path t.outputs
     && (are_distinct t.outputs

@@ -75,10 +75,10 @@ is_identifier [] = false
 is_identifier (first ∷ others) = is_letter first && list_all (λ byte. is_letter byte || is_digit byte) others
 
 -- each text is before the next, byte by byte
-abbrev pub rises : List (List ℕ) → Bool
-rises [] = true
-rises (first ∷ []) = true
-rises (first ∷ second ∷ others) = is_lt (slice_cmp nat_cmp first second) && rises (second ∷ others)
+abbrev pub is_strictly_increasing : List (List ℕ) → Bool
+is_strictly_increasing [] = true
+is_strictly_increasing (first ∷ []) = true
+is_strictly_increasing (first ∷ second ∷ others) = is_lt (slice_cmp nat_cmp first second) && is_strictly_increasing (second ∷ others)
 
 -- no text stands twice
 abbrev pub are_distinct : List (List ℕ) → Bool
@@ -91,10 +91,10 @@ pub record IsThunk (t : Parts) : Type 0 where
   pub args : IsTrue (list_all has_no_zero t.args)
   pub keys : IsTrue (list_all is_identifier (map (λ env. env.0) t.envs))
   pub env_values : IsTrue (list_all has_no_zero (map (λ env. env.1) t.envs))
-  pub keys_rise : IsTrue (rises (map (λ env. env.0) t.envs))
+  pub keys_rise : IsTrue (is_strictly_increasing (map (λ env. env.0) t.envs))
   pub input_refs : AllByRecursion IsRef (map (λ input. input.1) t.inputs)
   pub input_paths : IsTrue (list_all is_path (map (λ input. input.0) t.inputs))
-  pub paths_rise : IsTrue (rises (map (λ input. input.0) t.inputs))
+  pub paths_rise : IsTrue (is_strictly_increasing (map (λ input. input.0) t.inputs))
   pub few_inputs : length t.inputs ≤ 4096
   pub output_paths : IsTrue (list_all is_path t.outputs)
   pub outputs_differ : IsTrue (are_distinct t.outputs)

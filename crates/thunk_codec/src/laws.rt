@@ -65,8 +65,8 @@ pub fn one_text()
     ensures text { (a : List ℕ) (b : List ℕ) (t : Parts) → Text a t → Text b t → a ≡ b }
 {}
 
-/// No proper front of a thunk's text is a thunk's text.
-pub fn no_front()
+/// No proper prefix of a thunk's text is a thunk's text.
+pub fn no_prefix()
     ensures { (bytes : List ℕ) (rest : List ℕ) (t : Parts) (u : Parts) → Text bytes t → Text (bytes ++ rest) u → rest ≡ [] }
 {}
 

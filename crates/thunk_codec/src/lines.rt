@@ -23,7 +23,7 @@ fn line_of(letter: u8, bytes: &[u8]) -> Option<&[u8]>
     }
 }
 
-/// The `a` or `o` lines at the front, and what stands behind them.
+/// The `a` or `o` lines at the beginning, and what stands behind them.
 pub fn bytes_lines(
     alloc: Global,
     letter: u8,
@@ -44,7 +44,7 @@ pub fn bytes_lines(
     Ok((lines, rest))
 }
 
-/// The `e` lines at the front, and what stands behind them.
+/// The `e` lines at the beginning, and what stands behind them.
 pub fn env_lines(alloc: Global, bytes: &[u8]) -> Result<(Many<(Bytes, Bytes)>, &[u8]), DecodeFault>
     ensures { Gives (λ x. (x.0, x.1.now)) result (all_lines_at 101 env_at bytes.now) }
 {
@@ -61,7 +61,7 @@ pub fn env_lines(alloc: Global, bytes: &[u8]) -> Result<(Many<(Bytes, Bytes)>, &
     Ok((lines, rest))
 }
 
-/// The `i` lines at the front, and what stands behind them.
+/// The `i` lines at the beginning, and what stands behind them.
 pub fn input_lines(alloc: Global, bytes: &[u8]) -> Result<(Many<(Bytes, Ref)>, &[u8]), DecodeFault>
     ensures { Gives (λ x. (x.0, x.1.now)) result (all_lines_at 105 input_at bytes.now) }
 {

@@ -7,7 +7,7 @@ ghost use Rattle.thunk_codec.specs.Reading.{parts_at};
 
 use crate::decoding::DecodeFault;
 use crate::lines::{bytes_lines, env_lines, input_lines};
-use crate::reading::{behind, ref_at};
+use crate::reading::{strip_prefix, ref_at};
 use crate::reference::Ref;
 use object_name::{Bytes, Many};
 use std::alloc::Global;
@@ -27,8 +27,8 @@ pub struct RawParts {
 pub fn parts_at(alloc: Global, bytes: &[u8]) -> Result<(RawParts, &[u8]), DecodeFault>
     ensures { Gives (λ x. (parts_of x.0, x.1.now)) result (parts_at bytes.now) }
 {
-    let rest = behind(b"gg-thunk 1\n", bytes)?;
-    let rest = behind(b"f ", rest)?;
+    let rest = strip_prefix(b"gg-thunk 1\n", bytes)?;
+    let rest = strip_prefix(b"f ", rest)?;
     let (function, rest) = match ref_at(rest) {
         Ok(read) => read,
         Err(fault) => return Err(fault),
@@ -49,7 +49,7 @@ pub fn parts_at(alloc: Global, bytes: &[u8]) -> Result<(RawParts, &[u8]), Decode
         Ok(read) => read,
         Err(fault) => return Err(fault),
     };
-    let rest = behind(b"end\n", rest)?;
+    let rest = strip_prefix(b"end\n", rest)?;
     Ok((
         RawParts {
             function,

@@ -1,10 +1,10 @@
-//! Reading what the lines of a thunk's text say, from the front.
+//! Reading what the lines of a thunk's text say, from the prefix.
 
 ghost use Rattle.std.specs.Prelude.{◌≡◌, Some, None};
 ghost use Rattle.std.specs.Option.{option_copied};
 ghost use Rattle.object_name.specs.Number.{number_of};
 ghost use Rattle.thunk_codec.specs.Gives.{Gives};
-ghost use Rattle.thunk_codec.specs.Reading.{behind, split_at_byte, counted_at, ref_at, bytes_at, env_at, input_at};
+ghost use Rattle.thunk_codec.specs.Reading.{strip_prefix, split_at_byte, counted_at, ref_at, bytes_at, env_at, input_at};
 
 use crate::decoding::DecodeFault;
 use crate::reference::Ref;
@@ -13,7 +13,7 @@ use std::alloc::Global;
 
 /// What stands behind a mark, where the mark stands in front.
 pub fn strip_mark<'a>(mark: &[u8], bytes: &'a [u8]) -> Option<&'a [u8]>
-    ensures { option_copied result ≡ behind mark.now bytes.now }
+    ensures { option_copied result ≡ strip_prefix mark.now bytes.now }
 {
     if !bytes.starts_with(mark) {
         return None;
@@ -22,8 +22,8 @@ pub fn strip_mark<'a>(mark: &[u8], bytes: &'a [u8]) -> Option<&'a [u8]>
 }
 
 /// What stands behind a mark.
-pub fn behind<'a>(mark: &[u8], bytes: &'a [u8]) -> Result<&'a [u8], DecodeFault>
-    ensures { Gives (λ x. x.now) result (behind mark.now bytes.now) }
+pub fn strip_prefix<'a>(mark: &[u8], bytes: &'a [u8]) -> Result<&'a [u8], DecodeFault>
+    ensures { Gives (λ x. x.now) result (strip_prefix mark.now bytes.now) }
 {
     strip_mark(mark, bytes).ok_or(DecodeFault::BadThunk)
 }
@@ -76,7 +76,7 @@ fn said_at(bytes: &[u8]) -> Result<(&[u8], &[u8]), DecodeFault>
     ensures { Gives (λ x. (x.0.now, x.1.now)) result (bytes_at bytes.now) }
 {
     let (said, rest) = counted_at(bytes)?;
-    let rest = behind(b"\n", rest)?;
+    let rest = strip_prefix(b"\n", rest)?;
     Ok((said, rest))
 }
 
@@ -106,7 +106,7 @@ pub fn input_at(alloc: Global, bytes: &[u8]) -> Result<((Bytes, Ref), &[u8]), De
     ensures { Gives (λ x. (x.0, x.1.now)) result (input_at bytes.now) }
 {
     let (path, rest) = counted_at(bytes)?;
-    let rest = behind(b" ", rest)?;
+    let rest = strip_prefix(b" ", rest)?;
     let (reference, rest) = match ref_at(rest) {
         Ok(read) => read,
         Err(fault) => return Err(fault),

@@ -114,8 +114,8 @@ fn read_output(text: &[u8]) -> Option<Ref>
     requires { 52 < length text.now }
     ensures { result ≡ out_ref_of text.now }
 {
-    let (front, rest) = text.split_at(SPELLING);
-    let name = Name::read(front)?;
+    let (prefix, rest) = text.split_at(SPELLING);
+    let name = Name::read(prefix)?;
     if name.kind() == Kind::Value {
         return None;
     }
@@ -154,7 +154,7 @@ fn write_output(spelling: &[u8], index: u32, out: &mut Bytes) -> Result<(), Allo
     done
 }
 
-/// Appends the spelling of an output, or a front of it.
+/// Appends the spelling of an output, or a prefix of it.
 fn append_output(spelling: &[u8], index: u32, out: &mut Bytes) -> Result<(), AllocError>
     ensures ok { OnOk result (out.new ≡ out.old ++ (spelling.now ++ 35 ∷ decimal index)) }
     ensures kept { take (length out.old) out.new ≡ out.old }

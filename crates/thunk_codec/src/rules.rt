@@ -5,7 +5,7 @@ ghost use Rattle.std.specs.List.{list_all, list_any};
 ghost use Rattle.std.specs.Ordering.{nat_cmp, is_lt};
 ghost use Rattle.std.specs.Cmp.Lexicographic.{slice_cmp};
 ghost use Rattle.thunk_codec.specs.Raw.{parts_of, keeps_numbers, keeps_bytes, keeps_orders};
-ghost use Rattle.thunk_codec.specs.Thunk.{has_no_zero, is_letter, is_digit, is_identifier, rises, are_distinct};
+ghost use Rattle.thunk_codec.specs.Thunk.{has_no_zero, is_letter, is_digit, is_identifier, is_strictly_increasing, are_distinct};
 
 use crate::parts::RawParts;
 use crate::path::Path;
@@ -59,7 +59,7 @@ fn is_before(first: &[u8], second: &[u8]) -> bool
 
 /// Whether each text is before the next.
 fn rise<T>(items: &[(Bytes, T)]) -> bool
-    ensures { result ≡ rises (map (λ item. item.0) items.now) }
+    ensures { result ≡ is_strictly_increasing (map (λ item. item.0) items.now) }
 {
     let mut rest = items;
     'items: while let [first, others @ ..] = rest {
@@ -76,7 +76,7 @@ fn rise<T>(items: &[(Bytes, T)]) -> bool
 
 /// Whether each path is before the next.
 fn paths_rise(inputs: &[(Path, Ref)]) -> bool
-    ensures { result ≡ rises (map (λ input. input.0) inputs.now) }
+    ensures { result ≡ is_strictly_increasing (map (λ input. input.0) inputs.now) }
 {
     let mut rest = inputs;
     'inputs: while let [first, others @ ..] = rest {
@@ -170,7 +170,7 @@ pub fn keep_bytes(args: &[Bytes], envs: &[(Bytes, Bytes)]) -> bool
 
 /// Whether keys and inputs stand in their orders, and no output stands twice.
 pub fn keep_orders(envs: &[(Bytes, Bytes)], inputs: &[(Path, Ref)], outputs: &[Path]) -> bool
-    ensures { result ≡ (rises (map (λ env. env.0) envs.now) && (rises (map (λ input. input.0) inputs.now) && are_distinct outputs.now)) }
+    ensures { result ≡ (is_strictly_increasing (map (λ env. env.0) envs.now) && (is_strictly_increasing (map (λ input. input.0) inputs.now) && are_distinct outputs.now)) }
 {
     rise(envs) && (paths_rise(inputs) && paths_are_distinct(outputs))
 }

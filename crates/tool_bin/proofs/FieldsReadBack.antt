@@ -10,7 +10,7 @@ use Rattle.std.proofs.lemmas.Bool.Decides.{Decides-eqb}
 use Rattle.std.proofs.lemmas.Slice.Eq.{starts_is}
 use Rattle.object_name.specs.Number.{digits_value}
 use Rattle.object_name.proofs.NumberLemmas.{digits_value-decimal, digits-decimal, length-decimal-pos}
-use Rattle.thunk_codec.specs.Reading.{behind}
+use Rattle.thunk_codec.specs.Reading.{strip_prefix}
 use Rattle.tool_bin.specs.Archive.{field, is_member_name, is_name_byte, padding}
 use Rattle.tool_bin.specs.ArchiveReading.{contents_at, is_slash, is_space, name_in, size_in}
 
@@ -26,18 +26,18 @@ no_digits (suc n) = refl
 
 -- ---- the size
 
--- digits before spaces are the digits at the front
-digits_front : (digits : List ℕ) (n : ℕ) → all_ascii_digits digits ≡ true → prefix_len is_ascii_digit (digits ++ replicate n 32) ≡ length digits
-digits_front [] n all = no_digits n
-digits_front (digit ∷ digits) n all =
+-- digits before spaces are the digits at the beginning
+digits_prefix : (digits : List ℕ) (n : ℕ) → all_ascii_digits digits ≡ true → prefix_len is_ascii_digit (digits ++ replicate n 32) ≡ length digits
+digits_prefix [] n all = no_digits n
+digits_prefix (digit ∷ digits) n all =
     let parts = and_parts (is_ascii_digit digit) (all_ascii_digits digits) all in
-    rw (parts.0) (ap (λ (k : ℕ). 1 + k) (digits_front digits n parts.1) ∙ (let e : 1 + length digits ≡ suc (length digits) = omega arith in e))
+    rw (parts.0) (ap (λ (k : ℕ). 1 + k) (digits_prefix digits n parts.1) ∙ (let e : 1 + length digits ≡ suc (length digits) = omega arith in e))
 
 size_by : (digits : List ℕ) (n : ℕ) → all_ascii_digits digits ≡ true → 1 ≤ length digits → size_in (digits ++ replicate n 32) ≡ Some (digits_value digits)
 unfolding size_in
 size_by digits n all some =
-    let front = digits_front digits n all in
-    let taken : take (prefix_len is_ascii_digit (digits ++ replicate n 32)) (digits ++ replicate n 32) ≡ digits = take_at digits (replicate n 32) _ (sym front) in
+    let prefix = digits_prefix digits n all in
+    let taken : take (prefix_len is_ascii_digit (digits ++ replicate n 32)) (digits ++ replicate n 32) ≡ digits = take_at digits (replicate n 32) _ (sym prefix) in
     rw (taken, drop_at digits (replicate n 32) (length digits) refl, le-leb 1 (length digits) some, spaces_alone n) refl
 
 -- a size is read from its field
@@ -48,21 +48,21 @@ size_read n small =
 
 -- ---- the name
 
-name_front : (name behind : List ℕ) → list_all is_name_byte name ≡ true → prefix_len (λ byte. not (is_slash byte)) (name ++ 47 ∷ behind) ≡ length name
-name_front [] behind all = refl
-name_front (byte ∷ name) behind all =
+name_prefix : (name behind : List ℕ) → list_all is_name_byte name ≡ true → prefix_len (λ byte. not (is_slash byte)) (name ++ 47 ∷ behind) ≡ length name
+name_prefix [] behind all = refl
+name_prefix (byte ∷ name) behind all =
     let parts = and_parts (is_name_byte byte) (list_all is_name_byte name) all in
     let bounds = and_parts (leb 33 byte) (leb byte 126 && not (eqb byte 47)) parts.0 in
     let other = and_parts (leb byte 126) (not (eqb byte 47)) bounds.1 in
-    rw (other.1) (ap (λ (k : ℕ). 1 + k) (name_front name behind parts.1) ∙ (let e : 1 + length name ≡ suc (length name) = omega arith in e))
+    rw (other.1) (ap (λ (k : ℕ). 1 + k) (name_prefix name behind parts.1) ∙ (let e : 1 + length name ≡ suc (length name) = omega arith in e))
 
 name_by : (name spaces : List ℕ) → is_member_name name ≡ true → list_all is_name_byte name ≡ true → list_all is_space spaces ≡ true → name_in (name ++ 47 ∷ spaces) ≡ Some name
 unfolding name_in
 name_by name spaces good bytes blank =
-    let front = name_front name spaces bytes in
+    let prefix = name_prefix name spaces bytes in
     let within : ltb (length name) (length (name ++ 47 ∷ spaces)) ≡ true = lt-ltb (length name) (length (name ++ 47 ∷ spaces)) (omega (arith, length-append name (47 ∷ spaces))) in
     let behind : drop (length name + 1) (name ++ 47 ∷ spaces) ≡ spaces = ap (drop (length name + 1)) (sym (append_assoc name (47 ∷ []) spaces)) ∙ drop_at (name ++ 47 ∷ []) spaces (length name + 1) (length-append name (47 ∷ [])) in
-    rw (front, within, behind, take_at name (47 ∷ spaces) (length name) refl, good, blank) refl
+    rw (prefix, within, strip_prefix, take_at name (47 ∷ spaces) (length name) refl, good, blank) refl
 
 -- the bytes of a name
 pub name_bytes : (name : List ℕ) → is_member_name name ≡ true → list_all is_name_byte name ≡ true
@@ -85,7 +85,7 @@ name_read name good =
 -- ---- the contents
 
 -- a mark is found where it stands
-pub behind_found : (mark rest : List ℕ) → behind mark (mark ++ rest) ≡ Some rest
+pub behind_found : (mark rest : List ℕ) → strip_prefix mark (mark ++ rest) ≡ Some rest
 behind_found mark rest =
     let starts : starts_with nat_eq (mark ++ rest) mark ≡ true = (starts_is Decides-eqb (mark ++ rest) mark _ refl).1 rest refl in
     rw (starts, drop_at mark rest (length mark) refl) refl

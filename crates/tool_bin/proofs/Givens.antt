@@ -10,23 +10,23 @@ abbrev pub Read : Type 0
 Read = Option (List ArchiveMember × List (List ℕ × List ℕ))
 
 -- what was taken before, and what is still taken
-abbrev pub with_front : List ArchiveMember → Read → Read
-with_front front read = read >>= λ x. Some (front ++ x.0, x.1)
+abbrev pub with_prefix : List ArchiveMember → Read → Read
+with_prefix prefix read = read >>= λ x. Some (prefix ++ x.0, x.1)
 
 -- some inputs are taken, and the others give what is left
-pub record Given (names : List (List ℕ)) (inputs : List (List ℕ × List ℕ)) (number : ℕ) (front : List ArchiveMember) (rest : List (List ℕ × List ℕ)) : Type 0 where
-  pub goes_on : with_front front (given_from number (drop number names) rest) ≡ given_from 0 names inputs
+pub record Given (names : List (List ℕ)) (inputs : List (List ℕ × List ℕ)) (number : ℕ) (prefix : List ArchiveMember) (rest : List (List ℕ × List ℕ)) : Type 0 where
+  pub goes_on : with_prefix prefix (given_from number (drop number names) rest) ≡ given_from 0 names inputs
 
-with_nothing : (read : Read) → with_front [] read ≡ read
+with_nothing : (read : Read) → with_prefix [] read ≡ read
 with_nothing (Some x) = refl
 with_nothing None = refl
 
 pub given_begins : (names : List (List ℕ)) (inputs : List (List ℕ × List ℕ)) → Given names inputs 0 [] inputs
 given_begins names inputs = record { goes_on = with_nothing (given_from 0 names inputs) }
 
-with_front-more : (front : List ArchiveMember) (x : ArchiveMember) (read : Read) → with_front front (read >>= λ others. Some (x ∷ others.0, others.1)) ≡ with_front (front ++ x ∷ []) read
-with_front-more front x (Some others) = ap (λ (v : List ArchiveMember). Some (v, others.1)) (sym (append_assoc front (x ∷ []) others.0))
-with_front-more front x None = refl
+with_prefix-more : (prefix : List ArchiveMember) (x : ArchiveMember) (read : Read) → with_prefix prefix (read >>= λ others. Some (x ∷ others.0, others.1)) ≡ with_prefix (prefix ++ x ∷ []) read
+with_prefix-more prefix x (Some others) = ap (λ (v : List ArchiveMember). Some (v, others.1)) (sym (append_assoc prefix (x ∷ []) others.0))
+with_prefix-more prefix x None = refl
 
 -- no input is left for a name
 missed_by : (number : ℕ) (names : List (List ℕ)) (rest : List (List ℕ × List ℕ)) → 0 < length names → length rest < 1 → given_from number names rest ≡ None
@@ -35,9 +35,9 @@ missed_by number [] rest some none = absurd (omega (arith, some))
 missed_by number (name ∷ names) [] some none = refl
 missed_by number (name ∷ names) (input ∷ inputs) some none = absurd (omega (arith, none))
 
-pub given_missed : (names : List (List ℕ)) (inputs rest : List (List ℕ × List ℕ)) (number : ℕ) (front : List ArchiveMember) → Given names inputs number front rest → number < length names → length rest < 1 → None ≡ given_from 0 names inputs
-given_missed names inputs rest number front given below none =
-    sym (ap (with_front front) (missed_by number (drop number names) rest (omega (arith, length-drop number names)) none)) ∙ given.goes_on
+pub given_missed : (names : List (List ℕ)) (inputs rest : List (List ℕ × List ℕ)) (number : ℕ) (prefix : List ArchiveMember) → Given names inputs number prefix rest → number < length names → length rest < 1 → None ≡ given_from 0 names inputs
+given_missed names inputs rest number prefix given below none =
+    sym (ap (with_prefix prefix) (missed_by number (drop number names) rest (omega (arith, length-drop number names)) none)) ∙ given.goes_on
 
 -- the first input isn't that of the first name
 other_by : (number : ℕ) (names : List (List ℕ)) (rest : List (List ℕ × List ℕ)) (name : List ℕ) (input : List ℕ × List ℕ) → 0 < length names → 1 ≤ length rest → name ≡ get_or names 0 name → input ≡ get_or rest 0 input
@@ -47,13 +47,13 @@ other_by number [] rest name input some more is_name is_input other = absurd (om
 other_by number (first ∷ names) [] name input some more is_name is_input other = absurd (omega (arith, more))
 other_by number (first ∷ names) (given ∷ inputs) name input some more is_name is_input other = rw (sym is_name, sym is_input, sym other) refl
 
-front_name : (names : List (List ℕ)) (number : ℕ) (name : List ℕ) → name ≡ get_or names number name → name ≡ get_or (drop number names) 0 name
-front_name names number name is = is ∙ sym (get_or-drop number names 0 name ∙ ap (λ (n : ℕ). get_or names n name) (let e : number + 0 ≡ number = omega arith in e))
+prefix_name : (names : List (List ℕ)) (number : ℕ) (name : List ℕ) → name ≡ get_or names number name → name ≡ get_or (drop number names) 0 name
+prefix_name names number name is = is ∙ sym (get_or-drop number names 0 name ∙ ap (λ (n : ℕ). get_or names n name) (let e : number + 0 ≡ number = omega arith in e))
 
-pub given_other : (names : List (List ℕ)) (inputs rest : List (List ℕ × List ℕ)) (number : ℕ) (front : List ArchiveMember) (name text : List ℕ) (input : List ℕ × List ℕ) → Given names inputs number front rest
+pub given_other : (names : List (List ℕ)) (inputs rest : List (List ℕ × List ℕ)) (number : ℕ) (prefix : List ArchiveMember) (name text : List ℕ) (input : List ℕ × List ℕ) → Given names inputs number prefix rest
     → number < length names → 1 ≤ length rest → name ≡ get_or names number name → text ≡ name → input ≡ get_or rest 0 input → None ≡ member_from number text input → None ≡ given_from 0 names inputs
-given_other names inputs rest number front name text input given below more is_name is_text is_input other =
-    sym (ap (with_front front) (other_by number (drop number names) rest name input (omega (arith, length-drop number names)) more (front_name names number name is_name) is_input (other ∙ ap (λ (v : List ℕ). member_from number v input) is_text))) ∙ given.goes_on
+given_other names inputs rest number prefix name text input given below more is_name is_text is_input other =
+    sym (ap (with_prefix prefix) (other_by number (drop number names) rest name input (omega (arith, length-drop number names)) more (prefix_name names number name is_name) is_input (other ∙ ap (λ (v : List ℕ). member_from number v input) is_text))) ∙ given.goes_on
 
 -- one input more is taken
 next_by : (number : ℕ) (names : List (List ℕ)) (rest : List (List ℕ × List ℕ)) (name : List ℕ) (input : List ℕ × List ℕ) (member : ArchiveMember) → 0 < length names → 1 ≤ length rest
@@ -64,20 +64,20 @@ next_by number [] rest name input member some more is_name is_input made = absur
 next_by number (first ∷ names) [] name input member some more is_name is_input made = absurd (omega (arith, more))
 next_by number (first ∷ names) (given ∷ inputs) name input member some more is_name is_input made = rw (sym is_name, sym is_input, sym made) refl
 
-pub given_more : (names : List (List ℕ)) (inputs rest : List (List ℕ × List ℕ)) (number : ℕ) (front new : List ArchiveMember) (name text : List ℕ) (input : List ℕ × List ℕ) (member : ArchiveMember) → Given names inputs number front rest
-    → number < length names → 1 ≤ length rest → name ≡ get_or names number name → text ≡ name → input ≡ get_or rest 0 input → Some member ≡ member_from number text input → new ≡ front ++ member ∷ []
+pub given_more : (names : List (List ℕ)) (inputs rest : List (List ℕ × List ℕ)) (number : ℕ) (prefix new : List ArchiveMember) (name text : List ℕ) (input : List ℕ × List ℕ) (member : ArchiveMember) → Given names inputs number prefix rest
+    → number < length names → 1 ≤ length rest → name ≡ get_or names number name → text ≡ name → input ≡ get_or rest 0 input → Some member ≡ member_from number text input → new ≡ prefix ++ member ∷ []
     → Given names inputs (number + 1) new (take (length rest - 1) (drop 1 rest))
-given_more names inputs rest number front new name text input member given below more is_name is_text is_input made pushed = record {
-  goes_on = ap (λ (v : List ArchiveMember). with_front v (given_from (number + 1) (drop (number + 1) names) (take (length rest - 1) (drop 1 rest)))) pushed
-      ∙ ap (λ (v : List (List ℕ × List ℕ)). with_front (front ++ member ∷ []) (given_from (number + 1) (drop (number + 1) names) v)) (take_rest rest 1)
-      ∙ ap (λ (v : List (List ℕ)). with_front (front ++ member ∷ []) (given_from (number + 1) v (drop 1 rest))) (sym (drop-drop 1 number names))
-      ∙ sym (with_front-more front member (given_from (number + 1) (drop 1 (drop number names)) (drop 1 rest)))
-      ∙ sym (ap (with_front front) (next_by number (drop number names) rest name input member (omega (arith, length-drop number names)) more (front_name names number name is_name) is_input (made ∙ ap (λ (v : List ℕ). member_from number v input) is_text)))
+given_more names inputs rest number prefix new name text input member given below more is_name is_text is_input made pushed = record {
+  goes_on = ap (λ (v : List ArchiveMember). with_prefix v (given_from (number + 1) (drop (number + 1) names) (take (length rest - 1) (drop 1 rest)))) pushed
+      ∙ ap (λ (v : List (List ℕ × List ℕ)). with_prefix (prefix ++ member ∷ []) (given_from (number + 1) (drop (number + 1) names) v)) (take_rest rest 1)
+      ∙ ap (λ (v : List (List ℕ)). with_prefix (prefix ++ member ∷ []) (given_from (number + 1) v (drop 1 rest))) (sym (drop-drop 1 number names))
+      ∙ sym (with_prefix-more prefix member (given_from (number + 1) (drop 1 (drop number names)) (drop 1 rest)))
+      ∙ sym (ap (with_prefix prefix) (next_by number (drop number names) rest name input member (omega (arith, length-drop number names)) more (prefix_name names number name is_name) is_input (made ∙ ap (λ (v : List ℕ). member_from number v input) is_text)))
       ∙ given.goes_on;
 }
 
 -- all names have their inputs
-pub given_ends : (names : List (List ℕ)) (inputs rest : List (List ℕ × List ℕ)) (number : ℕ) (front : List ArchiveMember) → Given names inputs number front rest → length names ≤ number → Some (front, rest) ≡ given_from 0 names inputs
+pub given_ends : (names : List (List ℕ)) (inputs rest : List (List ℕ × List ℕ)) (number : ℕ) (prefix : List ArchiveMember) → Given names inputs number prefix rest → length names ≤ number → Some (prefix, rest) ≡ given_from 0 names inputs
 unfolding given_from
-given_ends names inputs rest number front given done =
-    ap (λ (v : List ArchiveMember). Some (v, rest)) (sym (append-nil front)) ∙ ap (λ (v : List (List ℕ)). with_front front (given_from number v rest)) (sym (drop_all number names done)) ∙ given.goes_on
+given_ends names inputs rest number prefix given done =
+    ap (λ (v : List ArchiveMember). Some (v, rest)) (sym (append-nil prefix)) ∙ ap (λ (v : List (List ℕ)). with_prefix prefix (given_from number v rest)) (sym (drop_all number names done)) ∙ given.goes_on

@@ -6,14 +6,14 @@ use Rattle.std.proofs.lemmas.List.{append-nil}
 use Rattle.std.proofs.lemmas.Bool.{leb-true, eqb-true}
 use Rattle.std.proofs.lemmas.Option.{same_Some}
 use Rattle.thunk_codec.specs.Maybe.{◌>>=◌}
-use Rattle.thunk_codec.specs.Reading.{behind}
+use Rattle.thunk_codec.specs.Reading.{strip_prefix}
 use Rattle.thunk_codec.proofs.Steps.{bind_some, test_some}
 use Rattle.tool_bin.specs.Archive.{ArchiveMember, padding}
 use Rattle.tool_bin.specs.ArchiveReading.{header_at, name_of, size_of, contents_at, member_at, members_at, all_members}
 
 -- ---- what is read takes its bytes
 
-behind_shortens : (mark bytes rest : List ℕ) → behind mark bytes ≡ Some rest → length rest ≤ length bytes
+behind_shortens : (mark bytes rest : List ℕ) → strip_prefix mark bytes ≡ Some rest → length rest ≤ length bytes
 behind_shortens mark bytes rest e =
     let made = test_some (starts_with nat_eq bytes mark) (Some (drop (length mark) bytes)) rest e in
     let is = ap length (same_Some _ rest made.1) in
@@ -22,8 +22,8 @@ behind_shortens mark bytes rest e =
 contents_shorten : (size : ℕ) (bytes : List ℕ) (read : List ℕ × List ℕ) → contents_at size bytes ≡ Some read → length read.1 ≤ length bytes
 unfolding contents_at
 contents_shorten size bytes read e =
-    let fits = test_some (leb size (length bytes)) (behind (padding size) (drop size bytes) >>= λ rest. Some (take size bytes, rest)) read e in
-    let made = bind_some (behind (padding size) (drop size bytes)) (λ rest. Some (take size bytes, rest)) read fits.1 in
+    let fits = test_some (leb size (length bytes)) (strip_prefix (padding size) (drop size bytes) >>= λ rest. Some (take size bytes, rest)) read e in
+    let made = bind_some (strip_prefix (padding size) (drop size bytes)) (λ rest. Some (take size bytes, rest)) read fits.1 in
     let is = ap (λ (x : List ℕ × List ℕ). length x.1) (same_Some _ read made.2) in
     omega (arith, is, behind_shortens (padding size) (drop size bytes) made.0 made.1, length-drop size bytes)
 
@@ -51,66 +51,66 @@ member_shortens bytes read e =
 -- ---- the loop
 
 -- what was read before, and what is still read
-abbrev pub with_front : List ArchiveMember → Option (List ArchiveMember) → Option (List ArchiveMember)
-with_front front read = read >>= λ others. Some (front ++ others)
+abbrev pub with_prefix : List ArchiveMember → Option (List ArchiveMember) → Option (List ArchiveMember)
+with_prefix prefix read = read >>= λ others. Some (prefix ++ others)
 
 -- some members are read, and the rest of the bytes gives what is left
-pub record Going (bytes : List ℕ) (front : List ArchiveMember) (rest : List ℕ) : Type 0 where
+pub record Going (bytes : List ℕ) (prefix : List ArchiveMember) (rest : List ℕ) : Type 0 where
   pub most : ℕ
   pub room : length rest ≤ most
-  pub goes_on : with_front front (members_at most rest) ≡ all_members bytes
+  pub goes_on : with_prefix prefix (members_at most rest) ≡ all_members bytes
 
-with_none : (read : Option (List ArchiveMember)) → with_front [] read ≡ read
+with_none : (read : Option (List ArchiveMember)) → with_prefix [] read ≡ read
 with_none (Some others) = refl
 with_none None = refl
 
 pub going_begins : (bytes : List ℕ) → Going bytes [] bytes
 going_begins bytes = record { most = length bytes; room = omega arith; goes_on = with_none (all_members bytes) }
 
-with_front-more : (front : List ArchiveMember) (x : ArchiveMember) (read : Option (List ArchiveMember)) → with_front front (read >>= λ others. Some (x ∷ others)) ≡ with_front (front ++ x ∷ []) read
-with_front-more front x (Some others) = ap (λ (v : List ArchiveMember). Some v) (sym (append_assoc front (x ∷ []) others))
-with_front-more front x None = refl
+with_prefix-more : (prefix : List ArchiveMember) (x : ArchiveMember) (read : Option (List ArchiveMember)) → with_prefix prefix (read >>= λ others. Some (x ∷ others)) ≡ with_prefix (prefix ++ x ∷ []) read
+with_prefix-more prefix x (Some others) = ap (λ (v : List ArchiveMember). Some v) (sym (append_assoc prefix (x ∷ []) others))
+with_prefix-more prefix x None = refl
 
 pub one_member : (most : ℕ) (bytes : List ℕ) (x : ArchiveMember) (after : List ℕ) → member_at bytes ≡ Some (x, after) → 0 < length bytes → members_at (suc most) bytes ≡ (members_at most after >>= λ others. Some (x ∷ others))
 unfolding members_at
 one_member most [] x after read some = absurd (omega (arith, some))
 one_member most (byte ∷ bytes) x after read some = rw read refl
 
-more_by : (bytes : List ℕ) (front : List ArchiveMember) (rest : List ℕ) (x : ArchiveMember) (after : List ℕ) (most : ℕ)
-    → length rest ≤ most → with_front front (members_at most rest) ≡ all_members bytes → member_at rest ≡ Some (x, after) → length after < length rest → Going bytes (front ++ x ∷ []) after
-more_by bytes front rest x after zero room goes_on read shorter = absurd (omega (arith, room, shorter))
-more_by bytes front rest x after (suc most) room goes_on read shorter = record {
+more_by : (bytes : List ℕ) (prefix : List ArchiveMember) (rest : List ℕ) (x : ArchiveMember) (after : List ℕ) (most : ℕ)
+    → length rest ≤ most → with_prefix prefix (members_at most rest) ≡ all_members bytes → member_at rest ≡ Some (x, after) → length after < length rest → Going bytes (prefix ++ x ∷ []) after
+more_by bytes prefix rest x after zero room goes_on read shorter = absurd (omega (arith, room, shorter))
+more_by bytes prefix rest x after (suc most) room goes_on read shorter = record {
   most = most;
   room = omega (arith, room, shorter);
-  goes_on = sym (ap (with_front front) (one_member most rest x after read (omega (arith, shorter))) ∙ with_front-more front x (members_at most after)) ∙ goes_on;
+  goes_on = sym (ap (with_prefix prefix) (one_member most rest x after read (omega (arith, shorter))) ∙ with_prefix-more prefix x (members_at most after)) ∙ goes_on;
 }
 
 -- one member more is read
-pub going_more : (bytes : List ℕ) (front new : List ArchiveMember) (rest : List ℕ) (x : ArchiveMember) (after : List ℕ) → Going bytes front rest → Some (x, after) ≡ member_at rest → new ≡ front ++ x ∷ [] → Going bytes new after
-going_more bytes front new rest x after going read pushed =
+pub going_more : (bytes : List ℕ) (prefix new : List ArchiveMember) (rest : List ℕ) (x : ArchiveMember) (after : List ℕ) → Going bytes prefix rest → Some (x, after) ≡ member_at rest → new ≡ prefix ++ x ∷ [] → Going bytes new after
+going_more bytes prefix new rest x after going read pushed =
     subst (λ (v : List ArchiveMember). Going bytes v after) (sym pushed)
-    (more_by bytes front rest x after going.most going.room going.goes_on (sym read) (member_shortens rest (x, after) (sym read)))
+    (more_by bytes prefix rest x after going.most going.room going.goes_on (sym read) (member_shortens rest (x, after) (sym read)))
 
 -- and fewer bytes are left
 pub going_shortens : (rest : List ℕ) (x : ArchiveMember) (after : List ℕ) → Some (x, after) ≡ member_at rest → length after < length rest
 going_shortens rest x after read = member_shortens rest (x, after) (sym read)
 
-fails_by : (front : List ArchiveMember) (rest : List ℕ) (most : ℕ) → length rest ≤ most → false ≡ eqb (length rest) 0 → member_at rest ≡ None → with_front front (members_at most rest) ≡ None
+fails_by : (prefix : List ArchiveMember) (rest : List ℕ) (most : ℕ) → length rest ≤ most → false ≡ eqb (length rest) 0 → member_at rest ≡ None → with_prefix prefix (members_at most rest) ≡ None
 unfolding members_at
-fails_by front [] most room some read = absurd cc
-fails_by front (byte ∷ rest) zero room some read = refl
-fails_by front (byte ∷ rest) (suc most) room some read = rw read refl
+fails_by prefix [] most room some read = absurd cc
+fails_by prefix (byte ∷ rest) zero room some read = refl
+fails_by prefix (byte ∷ rest) (suc most) room some read = rw read refl
 
 -- no member is read
-pub going_fails : (bytes : List ℕ) (front : List ArchiveMember) (rest : List ℕ) → Going bytes front rest → false ≡ eqb (length rest) 0 → None ≡ member_at rest → None ≡ all_members bytes
-going_fails bytes front rest going some read = sym (fails_by front rest going.most going.room some (sym read)) ∙ going.goes_on
+pub going_fails : (bytes : List ℕ) (prefix : List ArchiveMember) (rest : List ℕ) → Going bytes prefix rest → false ≡ eqb (length rest) 0 → None ≡ member_at rest → None ≡ all_members bytes
+going_fails bytes prefix rest going some read = sym (fails_by prefix rest going.most going.room some (sym read)) ∙ going.goes_on
 
-ends_by : (front : List ArchiveMember) (rest : List ℕ) (most : ℕ) → true ≡ eqb (length rest) 0 → with_front front (members_at most rest) ≡ Some front
+ends_by : (prefix : List ArchiveMember) (rest : List ℕ) (most : ℕ) → true ≡ eqb (length rest) 0 → with_prefix prefix (members_at most rest) ≡ Some prefix
 unfolding members_at
-ends_by front [] zero done = ap (λ (v : List ArchiveMember). Some v) (append-nil front)
-ends_by front [] (suc most) done = ap (λ (v : List ArchiveMember). Some v) (append-nil front)
-ends_by front (byte ∷ rest) most done = absurd (omega (arith, eqb-true (length (byte ∷ rest)) 0 (sym done)))
+ends_by prefix [] zero done = ap (λ (v : List ArchiveMember). Some v) (append-nil prefix)
+ends_by prefix [] (suc most) done = ap (λ (v : List ArchiveMember). Some v) (append-nil prefix)
+ends_by prefix (byte ∷ rest) most done = absurd (omega (arith, eqb-true (length (byte ∷ rest)) 0 (sym done)))
 
 -- all members are read
-pub going_ends : (bytes : List ℕ) (front : List ArchiveMember) (rest : List ℕ) → Going bytes front rest → true ≡ eqb (length rest) 0 → Some front ≡ all_members bytes
-going_ends bytes front rest going done = sym (ends_by front rest going.most done) ∙ going.goes_on
+pub going_ends : (bytes : List ℕ) (prefix : List ArchiveMember) (rest : List ℕ) → Going bytes prefix rest → true ≡ eqb (length rest) 0 → Some prefix ≡ all_members bytes
+going_ends bytes prefix rest going done = sym (ends_by prefix rest going.most done) ∙ going.goes_on

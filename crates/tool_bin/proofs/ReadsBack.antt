@@ -28,9 +28,9 @@ use Rattle.tool_bin.proofs.Texts.{gathered, reads}
 one_line : (said rest : List ℕ) (a : Assembly) → list_all is_no_feed said ≡ true → with_lines (lines_of (line said ++ rest)) a ≡ with_lines (lines_of rest) (with_words (words_of said) a)
 one_line said rest a p = ap (λ (ls : List (List ℕ)). with_lines ls a) (line_first said rest p)
 
-front_line : (said more rest : List ℕ) (a b : Assembly) → list_all is_no_feed said ≡ true → with_words (words_of said) a ≡ b
+prefix_line : (said more rest : List ℕ) (a b : Assembly) → list_all is_no_feed said ≡ true → with_words (words_of said) a ≡ b
     → with_lines (lines_of ((line said ++ more) ++ rest)) a ≡ with_lines (lines_of (more ++ rest)) b
-front_line said more rest a b p q =
+prefix_line said more rest a b p q =
     ap (λ (t : List ℕ). with_lines (lines_of t) a) (append_assoc (line said) more rest) ∙ (one_line said (more ++ rest) a p ∙ ap (with_lines (lines_of (more ++ rest))) q)
 
 -- ---- instructions
@@ -95,7 +95,7 @@ code_lines : (code : List Instruction) (rest : List ℕ) (a : Assembly) → AllB
 unfolding with_all
 code_lines [] rest a wells = refl
 code_lines (i ∷ code) rest a wells =
-    front_line (instruction_text i) (flat_map code_line code) rest a (with_instruction i a) (no_feed_in i wells.0) (code_step (words_of (instruction_text i)) i a (says_code i wells.0))
+    prefix_line (instruction_text i) (flat_map code_line code) rest a (with_instruction i a) (no_feed_in i wells.0) (code_step (words_of (instruction_text i)) i a (says_code i wells.0))
     ∙ code_lines code rest (with_instruction i a) wells.1
 
 -- an assembly whose last symbol this is
@@ -129,7 +129,7 @@ with_symbol s a = record { done = all_symbols a.done a.last; last = Some s; debu
 symbol_lines : (s : Symbol) (rest : List ℕ) (a : Assembly) → is_identifier s.name ≡ true → IsWellSymbol s → with_lines (lines_of (symbol_text s ++ rest)) a ≡ with_lines (lines_of rest) (with_symbol s a)
 unfolding begun
 symbol_lines s rest a named well =
-    front_line (codes "sym " ++ (s.name ++ 32 ∷ decimal (length s.code))) (flat_map code_line s.code) rest a (with_label s.name a) (no_feed_counted s.name (length s.code) named well.count) (label_step s.name (length s.code) a named well.count)
+    prefix_line (codes "sym " ++ (s.name ++ 32 ∷ decimal (length s.code))) (flat_map code_line s.code) rest a (with_label s.name a) (no_feed_counted s.name (length s.code) named well.count) (label_step s.name (length s.code) a named well.count)
     ∙ (code_lines s.code rest (with_label s.name a) well.code
     ∙ ap (with_lines (lines_of rest)) (all_code (all_symbols a.done a.last) s.name [] s.code a.debug))
 
@@ -168,7 +168,7 @@ debug_lines : (debug : List DebugLine) (rest : List ℕ) (a : Assembly) → AllB
 unfolding with_lines_of
 debug_lines [] rest a wells = refl
 debug_lines (d ∷ debug) rest a wells =
-    front_line (codes "dbg " ++ (d.name ++ 32 ∷ decimal d.number)) (flat_map debug_text debug) rest a (with_debug d.name d.number a) (no_feed_counted d.name d.number wells.0.name wells.0.number) (debug_step d a wells.0)
+    prefix_line (codes "dbg " ++ (d.name ++ 32 ∷ decimal d.number)) (flat_map debug_text debug) rest a (with_debug d.name d.number a) (no_feed_counted d.name d.number wells.0.name wells.0.number) (debug_step d a wells.0)
     ∙ debug_lines debug rest (with_debug d.name d.number a) wells.1
 
 debug_in : (debug : List DebugLine) (a : Assembly) → object_in (with_lines_of debug a) ≡ record { symbols = all_symbols a.done a.last; debug = a.debug ++ debug }

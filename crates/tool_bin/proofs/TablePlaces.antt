@@ -30,8 +30,8 @@ padding_len n = parity_by (n % 2) (omega arith)
 length-part : (spelled mode between contents : List ℕ) → IsBetween mode between → length spelled ≤ 16 → length contents < size_limit → length (part spelled mode contents) ≡ part_len (length contents)
 length-part spelled mode between contents is short small =
     let n = length contents in
-    let front = header_len spelled mode between n is short small in
-    omega (arith, front, padding_len n, length-append (header spelled mode n) (contents ++ padding n), length-append contents (padding n))
+    let prefix = header_len spelled mode between n is short small in
+    omega (arith, prefix, padding_len n, length-append (header spelled mode n) (contents ++ padding n), length-append contents (padding n))
 
 length-member_text : (member : ArchiveMember) → is_member member ≡ true → length (member_text member) ≡ part_len (length member.contents)
 length-member_text member good =
@@ -61,17 +61,17 @@ pub member_stands : (table : List ℕ) (before : List ArchiveMember) (member : A
     → member_at (drop (place_behind (first_place (length table)) before) (archive_text (Some table) (before ++ member ∷ behind))) ≡ Some (member, flat_map member_text behind)
 member_stands table before member behind small good =
     let parts = both_by before member behind good in
-    let front = part table_name (codes "0") table in
+    let prefix = part table_name (codes "0") table in
     let texts = flat_map member_text before in
     let rest = member_text member ++ flat_map member_text behind in
-    let whole : archive_text (Some table) (before ++ member ∷ behind) ≡ (archive_mark ++ (front ++ texts)) ++ rest
-    = ap (λ (v : List ℕ). archive_mark ++ (front ++ v)) (flat_map-append member_text before (member ∷ behind))
-    ∙ ap (λ (v : List ℕ). archive_mark ++ v) (sym (append_assoc front texts rest))
-    ∙ sym (append_assoc archive_mark (front ++ texts) rest) in
-    let len : length (archive_mark ++ (front ++ texts)) ≡ place_behind (first_place (length table)) before
-    = omega (arith, length-append archive_mark (front ++ texts), length-append front texts, length-part table_name (codes "0") _ table table_between (omega arith) small, length-members before parts.0) in
+    let whole : archive_text (Some table) (before ++ member ∷ behind) ≡ (archive_mark ++ (prefix ++ texts)) ++ rest
+    = ap (λ (v : List ℕ). archive_mark ++ (prefix ++ v)) (flat_map-append member_text before (member ∷ behind))
+    ∙ ap (λ (v : List ℕ). archive_mark ++ v) (sym (append_assoc prefix texts rest))
+    ∙ sym (append_assoc archive_mark (prefix ++ texts) rest) in
+    let len : length (archive_mark ++ (prefix ++ texts)) ≡ place_behind (first_place (length table)) before
+    = omega (arith, length-append archive_mark (prefix ++ texts), length-append prefix texts, length-part table_name (codes "0") _ table table_between (omega arith) small, length-members before parts.0) in
     ap (λ (v : List ℕ). member_at (drop (place_behind (first_place (length table)) before) v)) whole
-    ∙ ap member_at (drop_at (archive_mark ++ (front ++ texts)) rest (place_behind (first_place (length table)) before) len)
+    ∙ ap member_at (drop_at (archive_mark ++ (prefix ++ texts)) rest (place_behind (first_place (length table)) before) len)
     ∙ member_found member (flat_map member_text behind) parts.1
 
 -- ---- the places in order

@@ -51,12 +51,12 @@ reads head object same rules =
 
 -- ---- texts that begin with another line
 
-taken_front : (front rest : List ℕ) → take (length front) (front ++ rest) ≡ front
-taken_front [] rest = refl
-taken_front (byte ∷ front) rest = ap (λ (v : List ℕ). byte ∷ v) (taken_front front rest)
+taken_prefix : (prefix rest : List ℕ) → take (length prefix) (prefix ++ rest) ≡ prefix
+taken_prefix [] rest = refl
+taken_prefix (byte ∷ prefix) rest = ap (λ (v : List ℕ). byte ∷ v) (taken_prefix prefix rest)
 
-begins : (front rest : List ℕ) → starts_with nat_eq (front ++ rest) front ≡ true
-begins front rest = ap (pointwise nat_eq front) (taken_front front rest) ∙ (bytes_eq-Decides front front).1 refl
+begins : (prefix rest : List ℕ) → starts_with nat_eq (prefix ++ rest) prefix ≡ true
+begins prefix rest = ap (pointwise nat_eq prefix) (taken_prefix prefix rest) ∙ (bytes_eq-Decides prefix prefix).1 refl
 
 text_begins : (head : List ℕ) (object : Object) → starts_with nat_eq (object_text head object) head ≡ true
 unfolding object_text

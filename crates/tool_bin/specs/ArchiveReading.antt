@@ -4,7 +4,7 @@ use Rattle.std.specs.List.{list_all, starts_with, ends_with}
 use Rattle.std.specs.Char.{is_ascii_digit}
 use Rattle.object_name.specs.Number.{digits_value}
 use Rattle.thunk_codec.specs.Maybe.{◌>>=◌, ◌>>◌, check}
-use Rattle.thunk_codec.specs.Reading.{behind}
+use Rattle.thunk_codec.specs.Reading.{strip_prefix}
 use Rattle.tool_bin.specs.Archive.{ArchiveMember, ArchiveContents, archive_mark, header_end, field, padding, table_name, is_member_name}
 
 -- a space
@@ -30,7 +30,7 @@ size_in bytes = let digits = take_while is_ascii_digit bytes in do
   check (list_all is_space (drop (length digits) bytes))
   Some (digits_value digits)
 
--- the header at the front, and what stands behind it
+-- the header at the beginning, and what stands behind it
 abbrev pub header_at : List ℕ → Option (List ℕ × List ℕ)
 header_at bytes = do
   check (nat_le 60 (length bytes))
@@ -50,10 +50,10 @@ size_of bytes = do
 unfoldable pub contents_at : ℕ → List ℕ → Option (List ℕ × List ℕ)
 contents_at size bytes = do
   check (nat_le size (length bytes))
-  rest ← behind (padding size) (drop size bytes)
+  rest ← strip_prefix (padding size) (drop size bytes)
   Some (take size bytes, rest)
 
--- the member at the front, and what stands behind it
+-- the member at the beginning, and what stands behind it
 unfoldable pub member_at : List ℕ → Option (ArchiveMember × List ℕ)
 member_at bytes = do
   cut ← header_at bytes
@@ -62,7 +62,7 @@ member_at bytes = do
   read ← contents_at size cut.1
   Some (record { name = name; contents = read.0 }, read.1)
 
--- what stands behind the table at the front
+-- what stands behind the table at the beginning
 unfoldable pub behind_table : List ℕ → Option (List ℕ)
 behind_table bytes = do
   cut ← header_at bytes
@@ -103,5 +103,5 @@ without_table bytes = do
 -- what the archive with these bytes holds, if they are one
 unfoldable pub archive_of : List ℕ → Option ArchiveContents
 archive_of bytes = do
-  body ← behind archive_mark bytes
+  body ← strip_prefix archive_mark bytes
   if begins_with_table body then with_table body else without_table body

@@ -2,7 +2,7 @@
 
 ghost use Rattle.std.specs.Prelude.{◌≡◌, [], false, IfOk};
 ghost use Rattle.std.specs.Option.{option_copied};
-ghost use Rattle.thunk_codec.specs.Reading.{behind};
+ghost use Rattle.thunk_codec.specs.Reading.{strip_prefix};
 ghost use Rattle.tool_bin.specs.Archive.{archive_mark};
 ghost use Rattle.tool_bin.specs.ArchiveReading.{archive_of, begins_with_table, with_table, without_table};
 
@@ -107,7 +107,7 @@ impl<'a> Archive<'a> {
 
 /// What stands behind the mark, where it stands in front.
 fn behind_mark(bytes: &[u8]) -> Option<&[u8]>
-    ensures { option_copied result ≡ behind archive_mark bytes.now }
+    ensures { option_copied result ≡ strip_prefix archive_mark bytes.now }
 {
     if !bytes.starts_with(ARCHIVE_MARK) {
         return None;

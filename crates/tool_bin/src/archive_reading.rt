@@ -1,11 +1,11 @@
-//! Reading the parts of an archive from the front.
+//! Reading the parts of an archive from the prefix.
 
 ghost use Rattle.std.specs.Prelude.{◌≡◌, ◌<◌, ◌≤◌, EachIndex, IfOk, IfSome, length, position, slice_index, take_while, true};
 ghost use Rattle.std.specs.Char.{is_ascii_digit};
 ghost use Rattle.object_name.specs.Number.{digits_value};
 ghost use Rattle.std.specs.List.{list_all};
 ghost use Rattle.std.specs.Option.{option_copied, option_map};
-ghost use Rattle.thunk_codec.specs.Reading.{behind};
+ghost use Rattle.thunk_codec.specs.Reading.{strip_prefix};
 ghost use Rattle.tool_bin.specs.Archive.{is_member_name, is_name_byte, padding};
 ghost use Rattle.tool_bin.specs.ArchiveReading.{all_members, behind_table, contents_at, header_at, is_slash, is_space, member_at, name_in, name_of, size_in, size_of};
 
@@ -76,7 +76,7 @@ fn name_in(field: &[u8]) -> Option<&[u8]>
     Some(&field[..end])
 }
 
-/// How many digits stand at the front.
+/// How many digits stand at the beginning.
 fn digits_len(bytes: &[u8]) -> usize
     ensures digits { result ≡ length (take_while is_ascii_digit bytes.now) }
     ensures within { result ≤ length bytes.now }
@@ -116,7 +116,7 @@ fn size_in(field: &[u8]) -> Option<u64>
     Some(digits_value(&field[..len]))
 }
 
-/// The header at the front, and what stands behind it.
+/// The header at the beginning, and what stands behind it.
 fn header_at(bytes: &[u8]) -> Option<(&[u8], &[u8])>
     ensures cut { option_map (λ x. (x.0.now, x.1.now)) result ≡ header_at bytes.now }
     ensures len { IfSome result (λ x. length x.0.now ≡ 60) }
@@ -148,7 +148,7 @@ fn size_of(header: &[u8]) -> Option<u64>
 
 /// What stands behind the padding of contents of this size, where it stands in front.
 fn behind_padding(size: u64, bytes: &[u8]) -> Option<&[u8]>
-    ensures { option_copied result ≡ behind (padding size) bytes.now }
+    ensures { option_copied result ≡ strip_prefix (padding size) bytes.now }
 {
     if size % 2 == 0 {
         return Some(bytes);
@@ -172,7 +172,7 @@ fn contents_at(size: u64, bytes: &[u8]) -> Option<(&[u8], &[u8])>
     Some((contents, rest))
 }
 
-/// The member at the front, and what stands behind it.
+/// The member at the beginning, and what stands behind it.
 #[tactic(auto, unfolding(crate::specs::ArchiveReading::member_at))]
 fn member_at(bytes: &[u8]) -> Option<(Member<'_>, &[u8])>
     ensures { option_map (λ x. (x.0, x.1.now)) result ≡ member_at bytes.now }
@@ -184,7 +184,7 @@ fn member_at(bytes: &[u8]) -> Option<(Member<'_>, &[u8])>
     Some((Member::new(name, contents), rest))
 }
 
-/// What stands behind the table at the front.
+/// What stands behind the table at the beginning.
 #[tactic(auto, unfolding(crate::specs::ArchiveReading::behind_table))]
 pub fn behind_table(bytes: &[u8]) -> Option<&[u8]>
     ensures { option_copied result ≡ behind_table bytes.now }

@@ -68,7 +68,7 @@ piece_ends byte other text holds fails = rw (holds, fails) refl
 same_pieces : (whole : List (List ℕ)) (word run behind rest : List ℕ) → whole ≡ word ∷ pieces_of behind → run ≡ word → rest ≡ behind → whole ≡ run ∷ pieces_of rest
 same_pieces whole word run behind rest e same stays = e ∙ ap (λ (v : List ℕ). v ∷ pieces_of behind) (sym same) ∙ ap (λ (v : List ℕ). run ∷ pieces_of v) (sym stays)
 
--- the word at the front is a piece
+-- the word at the beginning is a piece
 word_piece : (text : List ℕ) → at_word text ≡ true → pieces_of text ≡ take_while is_word_byte text ∷ pieces_of (behind_while is_word_byte text)
 word_piece [] starts = absurd cc
 word_piece (byte ∷ []) starts =
@@ -97,17 +97,17 @@ word_first macros text = elim (cases_Bool (at_word text)) [
 
 -- ---- a turn of the loop
 
-pub expand_more : (macros : Macros) (whole front rest other behind word after text first second : List ℕ) → front ++ expanded macros rest ≡ whole
+pub expand_more : (macros : Macros) (whole prefix rest other behind word after text first second : List ℕ) → prefix ++ expanded macros rest ≡ whole
     → other ≡ take_while is_other rest → behind ≡ behind_while is_other rest → word ≡ take_while is_word_byte behind → after ≡ behind_while is_word_byte behind
-    → first ≡ front ++ other → text ≡ replaced macros word → second ≡ first ++ text → second ++ expanded macros after ≡ whole
-expand_more macros whole front rest other behind word after text first second inv is_run is_behind is_word is_after one replaces two =
+    → first ≡ prefix ++ other → text ≡ replaced macros word → second ≡ first ++ text → second ++ expanded macros after ≡ whole
+expand_more macros whole prefix rest other behind word after text first second inv is_run is_behind is_word is_after one replaces two =
     let tail : expanded macros rest ≡ other ++ expanded macros behind =
     others_first macros rest ∙ ap (λ (v : List ℕ). v ++ expanded macros (behind_while is_other rest)) (sym is_run) ∙ ap (λ (v : List ℕ). other ++ expanded macros v) (sym is_behind) in
     let more : expanded macros behind ≡ text ++ expanded macros after =
     word_first macros behind ∙ ap (λ (v : List ℕ). replaced macros v ++ expanded macros (behind_while is_word_byte behind)) (sym is_word)
     ∙ ap (λ (v : List ℕ). v ++ expanded macros (behind_while is_word_byte behind)) (sym replaces) ∙ ap (λ (v : List ℕ). text ++ expanded macros v) (sym is_after) in
-    ap (λ (v : List ℕ). v ++ expanded macros after) (two ∙ ap (λ (v : List ℕ). v ++ text) one) ∙ append_assoc (front ++ other) text (expanded macros after)
-    ∙ append_assoc front other (text ++ expanded macros after) ∙ ap (λ (v : List ℕ). front ++ (other ++ v)) (sym more) ∙ ap (λ (v : List ℕ). front ++ v) (sym tail) ∙ inv
+    ap (λ (v : List ℕ). v ++ expanded macros after) (two ∙ ap (λ (v : List ℕ). v ++ text) one) ∙ append_assoc (prefix ++ other) text (expanded macros after)
+    ∙ append_assoc prefix other (text ++ expanded macros after) ∙ ap (λ (v : List ℕ). prefix ++ (other ++ v)) (sym more) ∙ ap (λ (v : List ℕ). prefix ++ v) (sym tail) ∙ inv
 
 turn_is_short : (rest : List ℕ) → 0 < length rest → length (behind_while is_word_byte (behind_while is_other rest)) < length rest
 turn_is_short [] some = absurd (omega arith)

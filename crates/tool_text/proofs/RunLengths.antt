@@ -1,4 +1,4 @@
--- Runs of bytes at the front of a text, by their lengths.
+-- Runs of bytes at the beginning of a text, by their lengths.
 use Rattle.std.proofs.Common.{◌≡◌, ℕ, ◌<◌, ◌≤◌, suc, Bool, true, false, List, [], ◌∷◌, length, Some, None, eqb, take, drop, get_or, not, refl, sym, ap, arith}
 use Rattle.std.specs.Prelude.{◌==◌}
 use Rattle.std.specs.List.{list_any, prefix_len}

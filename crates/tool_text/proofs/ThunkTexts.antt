@@ -9,8 +9,8 @@ use Rattle.tool_text.specs.declared.fib_thunks.Asked.{Asked}
 use Rattle.tool_text.specs.Fib.{fib_thunk, sum_thunk}
 
 -- the pieces of these texts
-abbrev pub front : List ℕ
-front = codes "gg-thunk 1" ++ 10 ∷ codes "f "
+abbrev pub prefix : List ℕ
+prefix = codes "gg-thunk 1" ++ 10 ∷ codes "f "
 
 abbrev pub before_number : List ℕ
 before_number = 10 ∷ codes "a "
@@ -63,10 +63,10 @@ abbrev fib_input_lines : List ℕ → List ℕ
 fib_input_lines add = codes "i 3:add " ++ (((add ++ 10 ∷ []) ++ []) ++ fib_outputs_lines)
 
 fib_in_line : (function number add three four five : List ℕ) → three ≡ codes "3" → four ≡ codes "4" → five ≡ codes "5"
-    → fib_lines function number add three four five ≡ front ++ (function ++ (before_number ++ (number ++ (before_input ++ (add ++ fib_end)))))
+    → fib_lines function number add three four five ≡ prefix ++ (function ++ (before_number ++ (number ++ (before_input ++ (add ++ fib_end)))))
 fib_in_line function number add three four five is_three is_four is_five =
     rw (is_three, is_four, is_five)
-    (ap (λ (v : List ℕ). front ++ v) (append_assoc function (10 ∷ []) (codes "a " ++ (((number ++ 10 ∷ []) ++ []) ++ fib_input_lines add))
+    (ap (λ (v : List ℕ). prefix ++ v) (append_assoc function (10 ∷ []) (codes "a " ++ (((number ++ 10 ∷ []) ++ []) ++ fib_input_lines add))
     ∙ ap (λ (v : List ℕ). function ++ (before_number ++ v)) (ended number (fib_input_lines add)
     ∙ ap (λ (v : List ℕ). number ++ (before_input ++ v)) (ended add fib_outputs_lines))))
 
@@ -83,35 +83,35 @@ two_inputs left right others = parts left (codes "#0") (10 ∷ []) (codes "i 1:b
     parts left place feed mark right others = simp (append_assoc, append-nil)
 
 sum_in_line : (add left right zero one three : List ℕ) → zero ≡ codes "0" → one ≡ codes "1" → three ≡ codes "3"
-    → sum_lines add left right zero one three ≡ front ++ (add ++ (before_first ++ (left ++ (before_second ++ (right ++ sum_end)))))
+    → sum_lines add left right zero one three ≡ prefix ++ (add ++ (before_first ++ (left ++ (before_second ++ (right ++ sum_end)))))
 sum_in_line add left right zero one three is_zero is_one is_three =
     rw (is_zero, is_one, is_three)
-    (ap (λ (v : List ℕ). front ++ v) (append_assoc add (10 ∷ []) (codes "i 1:a " ++ ((((left ++ codes "#0") ++ 10 ∷ []) ++ (codes "i 1:b " ++ (((right ++ codes "#0") ++ 10 ∷ []) ++ []))) ++ sum_output_line))
+    (ap (λ (v : List ℕ). prefix ++ v) (append_assoc add (10 ∷ []) (codes "i 1:a " ++ ((((left ++ codes "#0") ++ 10 ∷ []) ++ (codes "i 1:b " ++ (((right ++ codes "#0") ++ 10 ∷ []) ++ []))) ++ sum_output_line))
     ∙ ap (λ (v : List ℕ). add ++ (before_first ++ v)) (two_inputs left right sum_output_line)))
 
 -- the text of a thunk of the card `fib`
-pub fib_text_is : (asked : Asked) (n : ℕ) → text_of (fib_thunk asked n) ≡ front ++ (spelling asked.function ++ (before_number ++ (counted (decimal n) ++ (before_input ++ (spelling asked.add ++ fib_end)))))
+pub fib_text_is : (asked : Asked) (n : ℕ) → text_of (fib_thunk asked n) ≡ prefix ++ (spelling asked.function ++ (before_number ++ (counted (decimal n) ++ (before_input ++ (spelling asked.add ++ fib_end)))))
 unfolding text_of
 fib_text_is asked n =
     fib_in_line (spelling asked.function) (counted (decimal n)) (spelling asked.add) (decimal 3) (decimal 4) (decimal 5)
     (decimal_digit 3 (omega arith)) (decimal_digit 4 (omega arith)) (decimal_digit 5 (omega arith))
 
 -- the text of a sum
-pub sum_text_is : (asked : Asked) (left right : ObjectName) → text_of (sum_thunk asked left right) ≡ front ++ (spelling asked.add ++ (before_first ++ (spelling left ++ (before_second ++ (spelling right ++ sum_end)))))
+pub sum_text_is : (asked : Asked) (left right : ObjectName) → text_of (sum_thunk asked left right) ≡ prefix ++ (spelling asked.add ++ (before_first ++ (spelling left ++ (before_second ++ (spelling right ++ sum_end)))))
 unfolding text_of
 sum_text_is asked left right =
     sum_in_line (spelling asked.add) (spelling left) (spelling right) (decimal 0) (decimal 1) (decimal 3)
     (decimal_digit 0 (omega arith)) (decimal_digit 1 (omega arith)) (decimal_digit 3 (omega arith))
 
-pub fib_written : (asked : Asked) (n : ℕ) (t0 t1 t2 t3 t4 t5 t6 : List ℕ) → t0 ≡ front → t1 ≡ t0 ++ spelling asked.function → t2 ≡ t1 ++ before_number → t3 ≡ t2 ++ counted (decimal n)
+pub fib_written : (asked : Asked) (n : ℕ) (t0 t1 t2 t3 t4 t5 t6 : List ℕ) → t0 ≡ prefix → t1 ≡ t0 ++ spelling asked.function → t2 ≡ t1 ++ before_number → t3 ≡ t2 ++ counted (decimal n)
     → t4 ≡ t3 ++ before_input → t5 ≡ t4 ++ spelling asked.add → t6 ≡ t5 ++ fib_end → t6 ≡ text_of (fib_thunk asked n)
 fib_written asked n t0 t1 t2 t3 t4 t5 t6 h0 h1 h2 h3 h4 h5 h6 =
-    in_line front (spelling asked.function) before_number (counted (decimal n)) before_input (spelling asked.add) fib_end t0 t1 t2 t3 t4 t5 t6 h0 h1 h2 h3 h4 h5 h6 ∙ sym (fib_text_is asked n)
+    in_line prefix (spelling asked.function) before_number (counted (decimal n)) before_input (spelling asked.add) fib_end t0 t1 t2 t3 t4 t5 t6 h0 h1 h2 h3 h4 h5 h6 ∙ sym (fib_text_is asked n)
 
-pub sum_written : (asked : Asked) (left right : ObjectName) (t0 t1 t2 t3 t4 t5 t6 : List ℕ) → t0 ≡ front → t1 ≡ t0 ++ spelling asked.add → t2 ≡ t1 ++ before_first → t3 ≡ t2 ++ spelling left
+pub sum_written : (asked : Asked) (left right : ObjectName) (t0 t1 t2 t3 t4 t5 t6 : List ℕ) → t0 ≡ prefix → t1 ≡ t0 ++ spelling asked.add → t2 ≡ t1 ++ before_first → t3 ≡ t2 ++ spelling left
     → t4 ≡ t3 ++ before_second → t5 ≡ t4 ++ spelling right → t6 ≡ t5 ++ sum_end → t6 ≡ text_of (sum_thunk asked left right)
 sum_written asked left right t0 t1 t2 t3 t4 t5 t6 h0 h1 h2 h3 h4 h5 h6 =
-    in_line front (spelling asked.add) before_first (spelling left) before_second (spelling right) sum_end t0 t1 t2 t3 t4 t5 t6 h0 h1 h2 h3 h4 h5 h6 ∙ sym (sum_text_is asked left right)
+    in_line prefix (spelling asked.add) before_first (spelling left) before_second (spelling right) sum_end t0 t1 t2 t3 t4 t5 t6 h0 h1 h2 h3 h4 h5 h6 ∙ sym (sum_text_is asked left right)
 
 -- a number with the number of its digits is at most 41 bytes
 length-counted : (n : ℕ) → n < 2 ^ 64 → length (counted (decimal n)) ≤ 41
@@ -123,7 +123,7 @@ length-counted n fits =
 -- such a text is short
 pub fib_is_short : (asked : Asked) (n : ℕ) (text : List ℕ) → n < 2 ^ 64 → IsName asked.function → IsName asked.add → text ≡ text_of (fib_thunk asked n) → length text ≤ max_size
 fib_is_short asked n text fits function add is =
-    let whole : length text ≡ length (front ++ (spelling asked.function ++ (before_number ++ (counted (decimal n) ++ (before_input ++ (spelling asked.add ++ fib_end))))))
+    let whole : length text ≡ length (prefix ++ (spelling asked.function ++ (before_number ++ (counted (decimal n) ++ (before_input ++ (spelling asked.add ++ fib_end))))))
     = ap length (is ∙ fib_text_is asked n) in
     let a = length-append (spelling asked.function) (before_number ++ (counted (decimal n) ++ (before_input ++ (spelling asked.add ++ fib_end)))) in
     let b = length-append (counted (decimal n)) (before_input ++ (spelling asked.add ++ fib_end)) in

@@ -25,7 +25,7 @@ pub data Directive : Type 0 where
   Endif : Bool → Directive
   Unknown : Directive
 
--- what stands behind the longest run of such bytes at the front
+-- what stands behind the longest run of such bytes at the beginning
 abbrev pub behind_while : (ℕ → Bool) → List ℕ → List ℕ
 behind_while test text = drop (length (take_while test text)) text
 
@@ -48,7 +48,7 @@ before_byte byte text = do
   check (list_any (λ other. other == byte) text)
   Some (take_while (λ other. not (other == byte)) text)
 
--- the text between the front and a closing byte; it isn't empty, and what stands behind that byte is passed over
+-- the text between the prefix and a closing byte; it isn't empty, and what stands behind that byte is passed over
 abbrev pub closed_by : ℕ → List ℕ → Option (List ℕ)
 closed_by byte text = do
   file ← before_byte byte text

@@ -25,13 +25,13 @@ fn in_system(alloc: Global, file: &[u8]) -> Result<Option<Path>, AllocError>
 /// Appends the places of a file in the include folders and in the folder of the system.
 fn add_places(
     alloc: Global,
-    front: Many<Option<Path>>,
+    prefix: Many<Option<Path>>,
     folders: &[Folder],
     file: &[u8],
 ) -> Result<Many<Option<Path>>, AllocError>
-    ensures { IfOk result (λ all. all ≡ front ++ map (λ folder. joined_from folder file.now) (folders.now ++ codes "sys/include" ∷ [])) }
+    ensures { IfOk result (λ all. all ≡ prefix ++ map (λ folder. joined_from folder file.now) (folders.now ++ codes "sys/include" ∷ [])) }
 {
-    let mut all = front;
+    let mut all = prefix;
     'folders: for folder in folders {
         all.push(folder.join(alloc, file)?)?;
     }

@@ -1,4 +1,4 @@
-//! Runs of bytes at the front of a text.
+//! Runs of bytes at the beginning of a text.
 
 ghost use Rattle.std.specs.Prelude.{◌≡◌, ◌<◌, not, length, IfSome};
 ghost use Rattle.std.specs.List.{take_while, prefix_len};
@@ -7,7 +7,7 @@ ghost use Rattle.tool_text.specs.Directive.{behind_while, is_alphabetic, is_word
 
 use thunk_codec::is_letter_or_digit;
 
-/// How many letters stand at the front.
+/// How many letters stand at the beginning.
 fn letters_len(text: &[u8]) -> usize
     ensures { result ≡ prefix_len is_alphabetic text.now }
 {
@@ -19,7 +19,7 @@ fn letters_len(text: &[u8]) -> usize
     text.len()
 }
 
-/// How many letters, digits and `_` stand at the front.
+/// How many letters, digits and `_` stand at the beginning.
 fn word_len(text: &[u8]) -> usize
     ensures { result ≡ prefix_len is_word_byte text.now }
 {
@@ -43,7 +43,7 @@ fn other_len(text: &[u8]) -> usize
     text.len()
 }
 
-/// The letters at the front, and what stands behind them.
+/// The letters at the beginning, and what stands behind them.
 #[tactic(auto, using(crate::proofs::RunLengths::run_fits, crate::proofs::RunLengths::rest_behind))]
 pub(crate) fn split_letters(text: &[u8]) -> (&[u8], &[u8])
     ensures run { result.0.now ≡ take_while is_alphabetic text.now }
@@ -52,7 +52,7 @@ pub(crate) fn split_letters(text: &[u8]) -> (&[u8], &[u8])
     text.split_at(letters_len(text))
 }
 
-/// The letters, digits and `_` at the front, and what stands behind them.
+/// The letters, digits and `_` at the beginning, and what stands behind them.
 #[tactic(auto, using(crate::proofs::RunLengths::run_fits, crate::proofs::RunLengths::rest_behind))]
 pub(crate) fn split_word(text: &[u8]) -> (&[u8], &[u8])
     ensures run { result.0.now ≡ take_while is_word_byte text.now }
@@ -73,7 +73,7 @@ pub(crate) fn split_other(text: &[u8]) -> (&[u8], &[u8])
 /// What stands in front of the first such byte, where there is one.
 pub(crate) fn before_byte(byte: u8, text: &[u8]) -> Option<&[u8]>
     ensures found { option_copied result ≡ before_byte byte text.now }
-    ensures within { IfSome result (λ front. length front.now < length text.now) }
+    ensures within { IfSome result (λ prefix. length prefix.now < length text.now) }
 {
     for (i, other) in text.iter().enumerate() {
         if *other == byte {

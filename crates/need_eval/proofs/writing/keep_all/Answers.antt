@@ -1,7 +1,7 @@
 use Rattle.std.proofs.Common.{arith, ◌+◌, ◌++◌, ◌∷◌, [], ap, ◌∙◌, length}
 use Rattle.std.proofs.lemmas.List.{length_push}
 use Rattle.std.proofs.lemmas.Result.{err_from_is_err_and}
-use Rattle.need_eval.proofs.Outputs.{ArePut-more, ArePut-stop, ArePut-front, ArePut-end}
+use Rattle.need_eval.proofs.Outputs.{ArePut-more, ArePut-stop, ArePut-prefix, ArePut-end}
 use Rattle.need_eval.proofs.writing.keep_all.Goals as goal
 
 pub returns-in_err-name-clause-puts : goal.returns-in_err-name-clause-puts
@@ -15,7 +15,7 @@ returns-in_err-push-clause-puts g c = λ told.
     let p = err_from_is_err_and c.from_residual-in_err-push.result c.from_residual-in_err-push.ensures.1 in
     let puts = rw c.as_slice.ensures at (c.in_ok-name.ensures.puts told) in
     let more = ArePut-more c.args.outputs.now (g.K.Keeper.store c.args.keeper.now) (g.K.Keeper.store c.outputs.keeper) c.outputs.output-index c.outputs.names (c.outputs.invariant.stored told) c.output-item.result c.outputs-test.true c.output-item.is (g.K.Keeper.store c.keep.new.keeper) c.in_ok-name.name puts in
-    rw (p.1, p.2) (ArePut-front c.args.outputs.now (g.K.Keeper.store c.args.keeper.now) (g.K.Keeper.store c.keep.new.keeper) (c.outputs.output-index + 1) (c.outputs.names ++ c.in_ok-name.name ∷ []) more)
+    rw (p.1, p.2) (ArePut-prefix c.args.outputs.now (g.K.Keeper.store c.args.keeper.now) (g.K.Keeper.store c.keep.new.keeper) (c.outputs.output-index + 1) (c.outputs.names ++ c.in_ok-name.name ∷ []) more)
 
 pub outputs-preserved : goal.outputs-preserved
 outputs-preserved g c = record {

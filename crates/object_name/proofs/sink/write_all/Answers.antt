@@ -1,10 +1,10 @@
 use Rattle.std.proofs.Common.{arith}
-use Rattle.object_name.proofs.StreamLemmas.{appends_more, front_kept, piece_within}
+use Rattle.object_name.proofs.StreamLemmas.{appends_more, prefix_kept, piece_within}
 use Rattle.object_name.proofs.sink.write_all.Goals as goal
 
-pub returns-in_err-at-clause-front : goal.returns-in_err-at-clause-front
-returns-in_err-at-clause-front g c =
-    front_kept (g.S.Sink.written c.args.sink.now) (g.S.Sink.written c.pieces.sink) (g.S.Sink.written c.write.new.self) c.args.bytes.now c.pieces.at c.pieces.invariant.written c.in_err-at.ensures.kept
+pub returns-in_err-at-clause-prefix : goal.returns-in_err-at-clause-prefix
+returns-in_err-at-clause-prefix g c =
+    prefix_kept (g.S.Sink.written c.args.sink.now) (g.S.Sink.written c.pieces.sink) (g.S.Sink.written c.write.new.self) c.args.bytes.now c.pieces.at c.pieces.invariant.written c.in_err-at.ensures.kept
 
 pub pieces-preserved : goal.pieces-preserved
 pieces-preserved g c =

@@ -21,12 +21,12 @@ returns-clause-found c =
     let bytes : IsBytes c.args.text.now = λ i. omega (arith, c.type_inv.text i) in
     let is : c.in-Ok.len ≡ 32 = c.if-len-ne32.false in
     let ok : decode_of url_safe_no_pad c.args.text.now ≡ Ok c.decoded_digest.result =
-    c.in-Ok.ensures.ok.0 ∙ ap (λ (n : ℕ). Ok (take n c.decode_slice_unchecked.new.output)) is ∙ ap Ok (sym c.decoded_digest.ensures.front) in
+    c.in-Ok.ensures.ok.0 ∙ ap (λ (n : ℕ). Ok (take n c.decode_slice_unchecked.new.output)) is ∙ ap Ok (sym c.decoded_digest.ensures.prefix) in
     (digest-decode_of c.args.text.now c.decoded_digest.result bytes ok, c.decoded_digest.ensures.bytes, c.decoded_digest.ensures.whole)
 
 pub returns-clause-only : goal.returns-clause-only
 returns-clause-only c d bytes whole is =
     let same : c.in-Ok.len ≡ 32 = c.if-len-ne32.false in
     let ok : decode_of url_safe_no_pad c.args.text.now ≡ Ok c.decoded_digest.result =
-    c.in-Ok.ensures.ok.0 ∙ ap (λ (n : ℕ). Ok (take n c.decode_slice_unchecked.new.output)) same ∙ ap Ok (sym c.decoded_digest.ensures.front) in
+    c.in-Ok.ensures.ok.0 ∙ ap (λ (n : ℕ). Ok (take n c.decode_slice_unchecked.new.output)) same ∙ ap Ok (sym c.decoded_digest.ensures.prefix) in
     ap Some (decoded_once c.args.text.now d c.decoded_digest.result bytes is ok)

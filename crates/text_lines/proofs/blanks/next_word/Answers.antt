@@ -5,9 +5,9 @@ use Rattle.text_lines.proofs.blanks.next_word.Goals as goal
 pub returns-then-is_empty : goal.returns-then-is_empty
 returns-then-is_empty c = no_word c.args.line.now c.skip_blanks-text.result.now c.skip_blanks-text.ensures (grind arith)
 
-pub front_word-requires : goal.front_word-requires
-front_word-requires c = begins_a_word c.args.line.now c.skip_blanks-text.result.now c.skip_blanks-text.ensures (grind arith)
+pub first_word-requires : goal.first_word-requires
+first_word-requires c = begins_a_word c.args.line.now c.skip_blanks-text.result.now c.skip_blanks-text.ensures (grind arith)
 
 pub returns : goal.returns
 returns c =
-    word_behind_blanks c.args.line.now c.skip_blanks-text.result.now c.front_word.result.0.now c.front_word.result.1.now c.skip_blanks-text.ensures c.front_word.ensures.words c.front_word.ensures.shorter
+    word_behind_blanks c.args.line.now c.skip_blanks-text.result.now c.first_word.result.0.now c.first_word.result.1.now c.skip_blanks-text.ensures c.first_word.ensures.words c.first_word.ensures.shorter

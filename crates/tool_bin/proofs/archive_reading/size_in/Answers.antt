@@ -1,5 +1,5 @@
-use Rattle.tool_bin.proofs.HeaderFields.{front_digits}
+use Rattle.tool_bin.proofs.HeaderFields.{prefix_digits}
 use Rattle.tool_bin.proofs.archive_reading.size_in.Goals as goal
 
 pub digits_value-requires-clause-digits : goal.digits_value-requires-clause-digits
-digits_value-requires-clause-digits c = front_digits c.args.field.now c.digits_len-len.result c.digits_len-len.ensures.digits
+digits_value-requires-clause-digits c = prefix_digits c.args.field.now c.digits_len-len.result c.digits_len-len.ensures.digits

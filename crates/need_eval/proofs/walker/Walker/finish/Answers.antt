@@ -3,9 +3,9 @@ use Rattle.std.proofs.lemmas.Result.{err_from_is_err_and}
 use Rattle.object_name.specs.Name.{ObjectName, name_of}
 use Rattle.need_eval.specs.Eval.{State}
 use Rattle.need_eval.specs.Evaluation.{finished}
-use Rattle.need_eval.specs.PartWay.{Stops}
+use Rattle.need_eval.specs.WritePrefix.{Stops}
 use Rattle.need_eval.specs.Putting.{Puts}
-use Rattle.need_eval.proofs.Finishing.{whole, same-name, supplies-nothing, supplies-stops, supplies-front, supplied}
+use Rattle.need_eval.proofs.Finishing.{whole, same-name, supplies-nothing, supplies-stops, supplies-prefix, supplied}
 use Rattle.need_eval.proofs.walker.Walker.finish.Goals as goal
 
 pub returns-in_default-clause-supplies : goal.returns-in_default-clause-supplies
@@ -37,7 +37,7 @@ returns-in_err-leave-clause-supplies g c = λ told stands.
     let now = g.K.Keeper.store c.keep_outcome.new.keeper in
     let t = whole w store c.args.prepared.now c.args.outcome.now stands in
     rw (p.1, p.2) (λ answer writes asked answers.
-    supplies-front w store c.args.prepared.now c.args.outcome.now stands answer writes asked answers c.in_ok-outputs.outputs now
+    supplies-prefix w store c.args.prepared.now c.args.outcome.now stands answer writes asked answers c.in_ok-outputs.outputs now
     (subst (λ (name : ObjectName). Puts (finished name t c.args.outcome.now) c.in_ok-outputs.outputs store now)
     (same-name w store c.args.prepared.now c.args.outcome.now stands c.in-Some.name c.in-Some.ensures)
     (c.in_ok-outputs.ensures.puts told t (c.in-Some-note_name.ensures.named ∙ ap name_of stands.text))))

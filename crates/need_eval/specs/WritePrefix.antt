@@ -1,4 +1,4 @@
--- What a call that evaluates has done: all that the definition says, or a front of its writes.
+-- What a call that evaluates has done: all that the definition says, or a prefix of its writes.
 use Rattle.std.specs.Prelude.{◌≡◌, ℕ, List, ◌++◌, Result, Ok, Err}
 use Rattle.std.specs.List.{AllZip}
 use Rattle.object_name.specs.Name.{ObjectName, name_of}
@@ -17,12 +17,12 @@ abbrev pub state_after : {A : Type 0} → Ended A → State
 state_after (Got x s) = s
 state_after (Stopped why s) = s
 
--- the store has a front of the writes that the evaluation makes from this state on
-pub record IsPartWay {A : Type 0} (s : State) (e : Ended A) (now : Store) : Type 0 where
-  pub front : List Write
+-- the store has a prefix of the writes that the evaluation makes from this state on
+pub record IsWritePrefix {A : Type 0} (s : State) (e : Ended A) (now : Store) : Type 0 where
+  pub prefix : List Write
   pub others : List Write
-  pub list : (state_after e).writes ≡ s.writes ++ (front ++ others)
-  pub kept : now ≡ written s.store front
+  pub list : (state_after e).writes ≡ s.writes ++ (prefix ++ others)
+  pub kept : now ≡ written s.store prefix
 
 -- two byte strings that differ have this name
 pub record HaveOneName (name : ObjectName) (found fresh : List ℕ) : Type 0 where
@@ -40,9 +40,9 @@ pub record StopsWith {A : Type 0} (why : Stop) (e : Ended A) (now : Store) : Typ
 abbrev pub Stops : {A : Type 0} → State → Ended A → Store → EvalFault → Type 0
 Stops s e now (faults.Refused refusal) = StopsWith (Refused refusal) e now
 Stops s e now (faults.Clash name found fresh) = StopsWith (Clash name found fresh) e now
-Stops s e now faults.StoreFailed = IsPartWay s e now
-Stops s e now faults.RunFailed = IsPartWay s e now
-Stops s e now faults.Memory = IsPartWay s e now
+Stops s e now faults.StoreFailed = IsWritePrefix s e now
+Stops s e now faults.RunFailed = IsWritePrefix s e now
+Stops s e now faults.Memory = IsWritePrefix s e now
 
 -- the evaluation gives this, and the store is as it leaves it
 pub record Gives {A : Type 0} (x : A) (steps : ℕ) (e : Ended A) (now : Store) : Type 0 where

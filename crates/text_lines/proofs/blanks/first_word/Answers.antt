@@ -1,6 +1,6 @@
 use Rattle.std.proofs.Common.{sym, arith}
 use Rattle.text_lines.proofs.BlankLemmas.{first_word, only_word}
-use Rattle.text_lines.proofs.blanks.front_word.Goals as goal
+use Rattle.text_lines.proofs.blanks.first_word.Goals as goal
 
 pub returns-then-is_blank-clause-words : goal.returns-then-is_blank-clause-words
 returns-then-is_blank-clause-words c =
