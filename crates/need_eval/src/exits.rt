@@ -33,7 +33,7 @@ impl Walker {
         ensures none { IfOk result (λ found. found ≡ None → self.now.frames.items ≡ []) }
         ensures some { IfOk result (λ found. IfSome found (λ innermost. IsInnermost self.now innermost.0 innermost.1)) }
     {
-        match self.frames.prefix() {
+        match self.frames.front() {
             Some(inner) => {
                 let thunk = resolve(alloc, &inner.thunk, self.level.done.as_slice())?;
                 Ok(Some((inner.name, thunk)))

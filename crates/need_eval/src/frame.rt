@@ -56,7 +56,7 @@ impl Level {
         ensures none { result ≡ None → self.now.rest.items ≡ [] }
         ensures some { IfSome result (λ next. self.now.rest.items ≡ next ∷ drop 1 self.now.rest.items) }
     {
-        match self.rest.prefix() {
+        match self.rest.front() {
             Some(next) => Some(*next),
             None => None,
         }

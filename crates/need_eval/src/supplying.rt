@@ -55,7 +55,7 @@ impl Walker {
         if !self.level.is_gathered() {
             return None;
         }
-        match self.frames.prefix() {
+        match self.frames.front() {
             Some(inner) => Some(inner.name),
             None => None,
         }
