@@ -1,5 +1,6 @@
 -- Objects in memory, of which the calls with listed numbers fail. Calls are numbered from 1.
-use Rattle.std.specs.Prelude.{ℕ, ◌+◌, ◌-◌, ◌^◌, ◌==◌, min, Bool, if◌then◌else◌, List}
+use Rattle.std.specs.Prelude.{ℕ, ◌+◌, ◌-◌, ◌^◌, ◌==◌, min, Bool, if◌then◌else◌, List, refl}
+use Rattle.std.specs.Coded.{Coded, code_by, coded×, coded_list, coded_ℕ}
 use Rattle.std.specs.List.{list_any}
 
 -- the numbers of the calls that are to fail, how many calls were made, and how many of them failed
@@ -7,6 +8,10 @@ pub record CallList : Type 0 where
   pub failing : List ℕ
   pub count : ℕ
   pub faults : ℕ
+
+-- before the first call
+abbrev pub not_called : List ℕ → CallList
+not_called failing = record { failing = failing; count = 0; faults = 0 }
 
 -- one more, or the last value of a count of 64 bits
 abbrev pub risen : ℕ → ℕ
@@ -28,3 +33,9 @@ after_call calls = record {
 pub record MemBytes : Type 0 where
   pub content : List ℕ
   pub calls : CallList
+
+-- how the calls are stored where they are a part of a value
+abbrev pub calls_code : Coded CallList
+calls_code =
+    code_by (List ℕ × (ℕ × ℕ)) (coded× (coded_list coded_ℕ) (coded× coded_ℕ coded_ℕ)) (λ c. (c.failing, (c.count, c.faults)))
+    (λ p. record { failing = p.0; count = p.1.0; faults = p.1.1 }) (λ _. refl)

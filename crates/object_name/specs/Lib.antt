@@ -6,3 +6,4 @@ pub mod Causes
 pub mod Streams
 pub mod ReadEnd
 pub mod Calls
+pub mod Maps
