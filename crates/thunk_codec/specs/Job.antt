@@ -6,6 +6,7 @@ use Rattle.object_name.specs.Name.{ObjectName}
 use Rattle.thunk_codec.specs.declared.job.Job.{Job}
 use Rattle.thunk_codec.specs.declared.reference.Ref.{Ref}
 use Rattle.thunk_codec.specs.declared.reference.Ref.TheVariants.{Value, Out}
+use Rattle.thunk_codec.specs.Maybe.{◌>>◌, check}
 use Rattle.thunk_codec.specs.Thunk.{Parts}
 
 -- the greatest length of a job's encoding, in bytes
@@ -57,3 +58,11 @@ resolved_size t = size_by_lengths (ref_name t.function).size t.args t.envs (map 
 abbrev pub input_at : List ℕ → List (List ℕ × List ℕ) → Option (List ℕ)
 input_at path [] = None
 input_at path (input ∷ inputs) = if bytes_eq input.0 path then Some input.1 else input_at path inputs
+
+-- the bytes of the one input, where it has this path
+abbrev pub only_input : List ℕ → List (List ℕ × List ℕ) → Option (List ℕ)
+only_input path [] = None
+only_input path (input ∷ []) = do
+  check (bytes_eq input.0 path)
+  Some input.1
+only_input path (input ∷ other ∷ others) = None

@@ -1,7 +1,8 @@
 //! Jobs and their outcomes.
 
 ghost use Rattle.std.specs.Prelude.{◌≡◌, Some, None, MatchOption};
-ghost use Rattle.thunk_codec.specs.Job.{input_at};
+ghost use Rattle.std.specs.Option.{option_copied};
+ghost use Rattle.thunk_codec.specs.Job.{input_at, only_input};
 
 use crate::path::Path;
 use object_name::{Bytes, Many, TryCopy};
@@ -38,6 +39,19 @@ fn find_input<'a>(inputs: &'a [(Path, Bytes)], path: &[u8]) -> Option<&'a Bytes>
         rest = others;
     }
     None
+}
+
+/// The bytes of the one input, where it has this path.
+pub fn only_input<'a>(inputs: &'a [(Path, Bytes)], path: &[u8]) -> Option<&'a [u8]>
+    ensures { option_copied result ≡ only_input path.now inputs.now }
+{
+    let [input] = inputs else {
+        return None;
+    };
+    if input.0.text() != path {
+        return None;
+    }
+    Some(input.1.as_slice())
 }
 
 impl TryCopy for Job {

@@ -26,7 +26,7 @@ pub use decoding::{DecodeFault, decode};
 pub use encoding::encode;
 pub use folder::Folder;
 pub use function::{Function, Runner};
-pub use job::{Job, Outcome};
+pub use job::{Job, Outcome, only_input};
 pub use job_length::job_len;
 pub use making::MakeFault;
 pub use path::Path;

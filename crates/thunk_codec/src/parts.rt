@@ -7,7 +7,7 @@ ghost use Rattle.thunk_codec.specs.Reading.{parts_at};
 
 use crate::decoding::DecodeFault;
 use crate::lines::{bytes_lines, env_lines, input_lines};
-use crate::reading::{strip_prefix, ref_at};
+use crate::reading::{ref_at, strip_prefix};
 use crate::reference::Ref;
 use object_name::{Bytes, Many};
 use std::alloc::Global;
