@@ -1,7 +1,9 @@
 pub mod Names
-pub mod Stores
-pub mod Retries
-pub mod Places
-pub mod KeptLemmas
-pub mod MemoryLemmas
-pub mod FileLemmas
+pub mod HeldAfterPut
+pub mod HeldAfterStoring
+pub mod WrittenTwice
+pub mod TriesSoFar
+pub mod KeyIndex
+pub mod PairsByName
+pub mod StoreAfterPut
+pub mod PublicLaws

@@ -36,10 +36,16 @@ StoresAs old bytes new (Err (Clash name found fresh)) = Clashes old bytes new fo
 StoresAs old bytes new (Err Failed) = MayStore old bytes new
 StoresAs old bytes new (Err Memory) = MayStore old bytes new
 
--- two byte strings that differ and have one name, of which the second was to be stored
+-- two byte strings that differ have this name
+pub record HaveOneName (name : ObjectName) (found fresh : List ℕ) : Type 0 where
+  pub first : name_of found ≡ name
+  pub second : name_of fresh ≡ name
+  pub differ : found ≡ fresh → ⊥
+
+-- a clash shows two byte strings of one name, of which the second was to be stored
 abbrev pub ShowsClash : List ℕ → Result ObjectName StoreFault → Type 0
 ShowsClash bytes (Ok name) = Unit {0}
-ShowsClash bytes (Err (Clash name found fresh)) = (name ≡ name_of bytes) × (name_of found ≡ name) × (fresh ≡ bytes) × (found ≡ bytes → ⊥)
+ShowsClash bytes (Err (Clash name found fresh)) = (fresh ≡ bytes) × HaveOneName name found fresh
 ShowsClash bytes (Err Failed) = Unit {0}
 ShowsClash bytes (Err Memory) = Unit {0}
 

@@ -1,10 +1,10 @@
 -- A keeper in memory: its two finite maps, the calls on it and the puts that were made.
-use Rattle.std.specs.Prelude.{ℕ, List, ◌∷◌, [], ◌++◌, fold, refl}
+use Rattle.std.specs.Prelude.{ℕ, List, ◌∷◌, [], ◌++◌, refl}
 use Rattle.std.specs.Coded.{Coded, code_by, coded×, coded_list, coded_ℕ}
 use Rattle.std.specs.FinMap as map
 use Rattle.object_name.specs.Name.{ObjectName, name_cmp}
 use Rattle.object_name.specs.NameCode.{name_code}
-use Rattle.object_name.specs.Calls.{CallList, after_call}
+use Rattle.object_name.specs.Calls.{CallList, after_call, calls_code}
 use Rattle.blob_store.specs.Store.{Store}
 
 -- some bytes by their names
@@ -14,10 +14,6 @@ ByName = map.FinMap name_cmp (List ℕ)
 -- how such a map is stored
 abbrev pub by_name_code : Coded ByName
 by_name_code = map.code name_code (coded_list coded_ℕ)
-
--- the map of some pairs: a later one stands in place of an earlier one of its name
-abbrev pub map_of : List (ObjectName × List ℕ) → ByName
-map_of pairs = fold (λ kept pair. map.insert kept pair.0 pair.1) map.empty pairs
 
 -- what a keeper in memory holds, the calls on it so far, and the names of the puts that were made, the first of them first
 pub record Memory : Type 0 where
@@ -29,10 +25,6 @@ pub record Memory : Type 0 where
 -- the store that it tells
 abbrev pub store_of : Memory → Store
 store_of memory = record { objects = λ name. map.get memory.objects name; notes = λ name. map.get memory.notes name }
-
--- before the first call
-abbrev pub not_called : List ℕ → CallList
-not_called failing = record { failing = failing; count = 0; faults = 0 }
 
 -- after a call that changed nothing
 abbrev pub called : Memory → Memory
@@ -55,12 +47,6 @@ with_note memory name bytes = record {
   calls = after_call memory.calls;
   puts = memory.puts ++ name ∷ [];
 }
-
--- how the calls are stored
-abbrev pub calls_code : Coded CallList
-calls_code =
-    code_by (List ℕ × (ℕ × ℕ)) (coded× (coded_list coded_ℕ) (coded× coded_ℕ coded_ℕ)) (λ c. (c.failing, (c.count, c.faults)))
-    (λ p. record { failing = p.0; count = p.1.0; faults = p.1.1 }) (λ _. refl)
 
 -- how a keeper in memory is stored
 abbrev pub memory_code : Coded Memory

@@ -6,6 +6,7 @@ ghost use Rattle.object_name.specs.Name.{name_of};
 ghost use Rattle.blob_store.specs.Store.{held, if_named};
 
 use crate::keeper::Keeper;
+use crate::retries::get_again;
 use object_name::{Bytes, Name, Trouble, name_of};
 use std::alloc::Global;
 
@@ -26,26 +27,6 @@ pub fn fetch<K: Keeper>(
         Some(bytes) => Ok(if_named(name, bytes)),
         None => Ok(None),
     }
-}
-
-/// What stands under a name, by the first of `retries` + 1 calls that doesn't fail.
-fn get_again<K: Keeper>(
-    alloc: Global,
-    keeper: &mut K,
-    name: &Name,
-    retries: u32,
-) -> Result<Option<Bytes>, Trouble>
-    ensures found { K.tells → IfOk result (λ found. found ≡ (K.store keeper.old).objects name.now) }
-    ensures same { K.tells → K.store keeper.new ≡ K.store keeper.old }
-    ensures cause { HasCauseBy retries (K.faults keeper.old) (K.faults keeper.new) result }
-{
-    'tries: for _ in 0..retries {
-        match keeper.get(alloc, name) {
-            Err(Trouble::Failed) => {}
-            answer => return answer,
-        }
-    }
-    keeper.get(alloc, name)
 }
 
 /// The bytes, where they have that name.

@@ -1,11 +1,10 @@
 //! A keeper in a folder.
 
 ghost use Rattle.std.specs.Prelude.{◌≡◌, None, IfOk};
-ghost use Rattle.object_name.specs.Causes.{HasCause};
 
-use crate::files::{read_file, write_file};
 use crate::keeper::Keeper;
-use object_name::{Bytes, Name, Trouble};
+use folder_files::{FaultCount, path_in, read_file, replace_file};
+use object_name::{Bytes, MAX_SIZE, Name, Trouble};
 use std::alloc::{AllocError, Global};
 use std::io;
 use std::io::ErrorKind;
@@ -19,7 +18,7 @@ pub struct FolderKeeper<R> {
     files: R,
     objects: String,
     notes: String,
-    faults: u64,
+    faults: FaultCount,
 }
 
 impl<R: Files> FolderKeeper<R> {
@@ -34,7 +33,7 @@ impl<R: Files> FolderKeeper<R> {
             files,
             objects: format!(in alloc; "{root}/objects")?,
             notes: format!(in alloc; "{root}/notes")?,
-            faults: 0,
+            faults: FaultCount::new(),
         })
     }
 
@@ -42,21 +41,7 @@ impl<R: Files> FolderKeeper<R> {
     pub fn faults(&self) -> u64
         ensures { result ≡ ⟦<FolderKeeper<R> as Keeper>⟧.faults self.now }
     {
-        self.faults
-    }
-
-    /// What a call answers, by what came of its work on files: a fault is counted, and memory that was refused isn't one.
-    fn answer<T: Drop>(&mut self, done: io::Result<T>) -> Result<T, Trouble>
-        ensures { HasCause self.old.faults self.new.faults result }
-    {
-        match done {
-            Ok(value) => Ok(value),
-            Err(error) if error.kind() == ErrorKind::OutOfMemory => Err(Trouble::Memory),
-            Err(_) => {
-                self.faults = self.faults.saturating_add(1);
-                Err(Trouble::Failed)
-            }
-        }
+        self.faults.count()
     }
 }
 
@@ -68,22 +53,55 @@ impl<R: Files> Keeper for FolderKeeper<R> {
     ghost faults = { λ k. k.faults };
 
     fn get(&mut self, alloc: Global, name: &Name) -> Result<Option<Bytes>, Trouble> {
-        let done = read_file(alloc, &self.files, self.objects.as_str(), name);
-        self.answer(done)
+        let done = read_named(alloc, &self.files, self.objects.as_str(), name);
+        self.faults.answer(done)
     }
 
     fn put(&mut self, name: &Name, bytes: &[u8]) -> Result<(), Trouble> {
-        let done = write_file(self.alloc, &self.files, self.objects.as_str(), name, bytes);
-        self.answer(done)
+        let done = replace_named(self.alloc, &self.files, self.objects.as_str(), name, bytes);
+        self.faults.answer(done)
     }
 
     fn get_note(&mut self, alloc: Global, name: &Name) -> Result<Option<Bytes>, Trouble> {
-        let done = read_file(alloc, &self.files, self.notes.as_str(), name);
-        self.answer(done)
+        let done = read_named(alloc, &self.files, self.notes.as_str(), name);
+        self.faults.answer(done)
     }
 
     fn put_note(&mut self, name: &Name, bytes: &[u8]) -> Result<(), Trouble> {
-        let done = write_file(self.alloc, &self.files, self.notes.as_str(), name, bytes);
-        self.answer(done)
+        let done = replace_named(self.alloc, &self.files, self.notes.as_str(), name, bytes);
+        self.faults.answer(done)
     }
+}
+
+/// The bytes of a name's file, where it is there. A file with more bytes than an object may have counts as none.
+fn read_named<R: Files>(
+    alloc: Global,
+    files: &R,
+    folder: &str,
+    name: &Name,
+) -> io::Result<Option<Bytes>> {
+    let path = path_of(alloc, folder, name)?;
+    match read_file(alloc, files, path.as_str(), MAX_SIZE as usize) {
+        Err(error) if error.kind() == ErrorKind::NotFound => Ok(None),
+        read => read,
+    }
+}
+
+/// Puts bytes in a name's file.
+fn replace_named<R: Files>(
+    alloc: Global,
+    files: &R,
+    folder: &str,
+    name: &Name,
+    bytes: &[u8],
+) -> io::Result<()> {
+    let path = path_of(alloc, folder, name)?;
+    replace_file(alloc, files, folder, path.as_str(), bytes)
+}
+
+/// The path of a name's file.
+fn path_of(alloc: Global, folder: &str, name: &Name) -> Result<String, AllocError> {
+    let mut spelled = [0u8; 52];
+    name.spell(&mut spelled);
+    path_in(alloc, folder, &spelled)
 }

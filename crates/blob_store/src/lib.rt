@@ -2,21 +2,17 @@
 #![tactic(auto)]
 
 mod fetching;
-mod files;
 mod folder_keeper;
-#[cfg(test)]
-mod folder_tests;
 mod keeper;
-mod kept;
+pub mod laws;
 mod mem_keeper;
-#[cfg(test)]
-mod memory_tests;
-#[cfg(test)]
-mod stopping;
+mod named_bytes;
+mod retries;
 mod storing;
 
 pub use fetching::fetch;
 pub use folder_keeper::FolderKeeper;
 pub use keeper::Keeper;
 pub use mem_keeper::MemKeeper;
+pub use retries::{get_note_again, put_note_again};
 pub use storing::{StoreFault, store};

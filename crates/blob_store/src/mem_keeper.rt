@@ -3,14 +3,15 @@
 ghost use Rattle.std.specs.Prelude.{◌≡◌, ◌↔◌, ◌++◌, ◌∷◌, [], length, IsTrue, IsErrOf, IfOk, OnOk, OnErr};
 ghost use Rattle.std.specs.FinMap as map;
 ghost use Rattle.object_name.specs.Causes.{HasCause};
-ghost use Rattle.object_name.specs.Calls.{fails_next};
+ghost use Rattle.object_name.specs.Calls.{fails_next, not_called};
+ghost use Rattle.object_name.specs.Maps.{map_of};
 ghost use Rattle.blob_store.specs.Keeping.{MayWrite};
-ghost use Rattle.blob_store.specs.Memory.{map_of, store_of, not_called, called, with_object, with_note};
+ghost use Rattle.blob_store.specs.Memory.{store_of, called, with_object, with_note};
 ghost use Rattle.blob_store.specs.Store.{after_write};
 ghost use Rattle.blob_store.specs.Store.Write.{Object, Note};
 
 use crate::keeper::Keeper;
-use crate::kept::Kept;
+use crate::named_bytes::NamedBytes;
 use object_name::{Bytes, Calls, Many, Name, Trouble};
 use std::alloc::{AllocError, Global};
 use std::marker::Model;
@@ -19,8 +20,8 @@ use std::marker::Model;
 #[derive(Drop)]
 pub struct MemKeeper {
     alloc: Global,
-    objects: Kept,
-    notes: Kept,
+    objects: NamedBytes,
+    notes: NamedBytes,
     calls: Calls,
     puts: Vec<Name>,
 }
@@ -48,8 +49,8 @@ impl MemKeeper {
     {
         Ok(MemKeeper {
             alloc,
-            objects: Kept::from_pairs(alloc, held)?,
-            notes: Kept::from_pairs(alloc, notes)?,
+            objects: NamedBytes::from_pairs(alloc, held)?,
+            notes: NamedBytes::from_pairs(alloc, notes)?,
             calls: Calls::new(failing),
             puts: Vec::new(alloc),
         })
@@ -132,7 +133,7 @@ impl Keeper for MemKeeper {
 /// Puts bytes under a name, and records it.
 fn keep(
     alloc: Global,
-    kept: &mut Kept,
+    kept: &mut NamedBytes,
     puts: &mut Vec<Name>,
     name: &Name,
     bytes: &[u8],

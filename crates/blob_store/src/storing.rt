@@ -1,15 +1,13 @@
 //! Putting objects under their names.
 
-ghost use Rattle.std.specs.Prelude.{◌≡◌, ◌≤◌, length, IfOk, OnOk, OnErr};
-ghost use Rattle.object_name.specs.Causes.{HasCauseBy};
+ghost use Rattle.std.specs.Prelude.{◌≡◌, ◌≤◌, length, IfOk};
 ghost use Rattle.object_name.specs.Name.{name_of, max_size};
 ghost use Rattle.blob_store.specs.declared.storing.StoreFault.TheVariants.{Memory};
-ghost use Rattle.blob_store.specs.Store.{after_write};
-ghost use Rattle.blob_store.specs.Store.Write.{Object};
-ghost use Rattle.blob_store.specs.Keeping.{MayWrite, StoresAs, ShowsClash, StoreCause, fault_of};
+ghost use Rattle.blob_store.specs.Keeping.{StoresAs, ShowsClash, StoreCause, fault_of};
 
 use crate::fetching::fetch;
 use crate::keeper::Keeper;
+use crate::retries::put_again;
 use object_name::{Bytes, Name, Trouble, name_of};
 use std::alloc::{AllocError, AllocFailed, Global};
 
@@ -24,7 +22,7 @@ pub enum StoreFault {
     },
     /// The keeper failed more often than was tried again.
     Failed,
-    /// Memory was refused.
+    /// Out of memory.
     Memory,
 }
 
@@ -83,24 +81,4 @@ pub fn store<K: Keeper>(
         held,
         fresh: Bytes::from_slice(alloc, bytes)?,
     })
-}
-
-/// Puts an object by the first of `retries` + 1 calls that doesn't fail.
-fn put_again<K: Keeper>(
-    keeper: &mut K,
-    name: &Name,
-    bytes: &[u8],
-    retries: u32,
-) -> Result<(), Trouble>
-    ensures made { K.tells → OnOk result (K.store keeper.new ≡ after_write (K.store keeper.old) (Object name.now bytes.now)) }
-    ensures kept { K.tells → OnErr result (MayWrite (K.store keeper.old) (Object name.now bytes.now) (K.store keeper.new)) }
-    ensures cause { HasCauseBy retries (K.faults keeper.old) (K.faults keeper.new) result }
-{
-    'tries: for _ in 0..retries {
-        match keeper.put(name, bytes) {
-            Err(Trouble::Failed) => {}
-            answer => return answer,
-        }
-    }
-    keeper.put(name, bytes)
 }

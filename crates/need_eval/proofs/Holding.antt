@@ -6,7 +6,7 @@ use Rattle.thunk_codec.specs.declared.job.Job.{Job}
 use Rattle.thunk_codec.specs.declared.job.Outcome.{Outcome}
 use Rattle.blob_store.specs.Store.{Store, Write, held, after_write}
 use Rattle.blob_store.specs.Store.Write.{Object, Note}
-use Rattle.blob_store.proofs.Stores.{held-put-other}
+use Rattle.blob_store.proofs.PublicLaws.{held-put-other}
 use Rattle.need_eval.specs.Eval.{State, Stands, ◌>>=◌, give, need, note_asked}
 use Rattle.need_eval.specs.Evaluation.{ask, values_of}
 use Rattle.need_eval.specs.WritePrefix.{state_after}

@@ -81,16 +81,12 @@ kept_puts bytes old now name named stored = record {
 pub kept_stops : (bytes : List ℕ) (s : State) (old now : Store) (fault : StoreFault) → s.store ≡ old → StoresAs old bytes now (Err fault) → ShowsClash bytes (Err fault) → Stops s (store_one bytes s) now (fault_of_store fault)
 kept_stops bytes s old now (stores.Clash name found fresh) same h shows =
     let here : Clashes s.store bytes now found = subst (λ (store : Store). Clashes store bytes now found) (sym same) h in
-    store_one-clash bytes s now name found fresh here.other shows.0 shows.2 here.same
+    store_one-clash bytes s now name found fresh here.other (sym shows.1.second ∙ ap name_of shows.0) shows.0 here.same
 kept_stops bytes s old now stores.Failed same h shows = store_one-may bytes s now (subst (λ (store : Store). MayStore store bytes now) (sym same) h)
 kept_stops bytes s old now stores.Memory same h shows = store_one-may bytes s now (subst (λ (store : Store). MayStore store bytes now) (sym same) h)
 
 -- what a fault shows
 pub kept_cause : (bytes : List ℕ) (retries before after : ℕ) (fault : StoreFault) → StoreCause retries before after (Err fault) → ShowsClash bytes (Err fault) → KeeperCause retries before after (fault_of_store fault)
-kept_cause bytes retries before after (stores.Clash name found fresh) h shows = record {
-  first = shows.1;
-  second = ap name_of shows.2 ∙ sym shows.0;
-  differ = λ e. shows.3 (e ∙ shows.2);
-}
+kept_cause bytes retries before after (stores.Clash name found fresh) h shows = record { first = shows.1.first; second = shows.1.second; differ = shows.1.differ }
 kept_cause bytes retries before after stores.Failed h shows = h
 kept_cause bytes retries before after stores.Memory h shows = h

@@ -1,4 +1,4 @@
 pub mod Names
 pub mod Notes
 pub mod FoundNotes
-pub mod Hits
+pub mod HitCases

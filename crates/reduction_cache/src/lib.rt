@@ -1,11 +1,11 @@
 //! Notes of what was reduced before.
 #![tactic(auto)]
 
-mod knowing;
+mod hits;
 pub mod laws;
 mod note;
-#[cfg(test)]
-mod tests;
+mod note_keeping;
 
-pub use knowing::{hit, keep_note};
+pub use hits::hit;
 pub use note::{encode_note, read_note};
+pub use note_keeping::keep_note;

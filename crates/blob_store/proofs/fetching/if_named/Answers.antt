@@ -1,6 +1,6 @@
 use Rattle.std.proofs.Common.{◌≡◌, true, false, refl, sym, ap, ◌∙◌}
 use Rattle.object_name.specs.Name.{name_of}
-use Rattle.blob_store.proofs.Stores.{if_named-own, if_named-other}
+use Rattle.blob_store.proofs.HeldAfterPut.{if_named-own, if_named-other}
 use Rattle.blob_store.proofs.fetching.if_named.Goals as goal
 
 pub returns-then-has_name-clause-named : goal.returns-then-has_name-clause-named

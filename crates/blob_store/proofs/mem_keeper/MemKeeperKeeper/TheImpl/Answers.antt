@@ -1,6 +1,6 @@
 use Rattle.std.proofs.Common.{inl}
 use Rattle.std.proofs.lemmas.Result.{on_ok_weaker, on_err_weaker}
-use Rattle.blob_store.proofs.MemoryLemmas.{store_of-with_object, store_of-with_note, store_of-called}
+use Rattle.blob_store.proofs.StoreAfterPut.{store_of-with_object, store_of-with_note, store_of-called}
 use Rattle.blob_store.proofs.mem_keeper.MemKeeperKeeper.TheImpl.Goals as goal
 
 pub put-tells : goal.put-tells

@@ -1,5 +1,0 @@
-use Rattle.blob_store.proofs.Retries.{IsReading}
-use Rattle.blob_store.proofs.fetching.get_again.Given as goal
-
-abbrev pub invariant-tries : goal.invariant-tries
-invariant-tries g l = IsReading g.K.Keeper.tells g.K.Keeper.store g.K.Keeper.faults l.initial.keeper l.keeper l.counter

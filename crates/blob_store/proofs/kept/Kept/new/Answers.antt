@@ -1,5 +1,0 @@
-use Rattle.blob_store.proofs.KeptLemmas.{IsWhole-empty}
-use Rattle.blob_store.proofs.kept.Kept.new.Goals as goal
-
-pub invariant_of-result : goal.invariant_of-result
-invariant_of-result c = IsWhole-empty c.new.result.items c.new.ensures.items

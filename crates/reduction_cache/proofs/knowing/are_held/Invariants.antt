@@ -1,6 +1,0 @@
-use Rattle.std.proofs.Common.{take}
-use Rattle.reduction_cache.proofs.Hits.{IsLooking}
-use Rattle.reduction_cache.proofs.knowing.are_held.Given as goal
-
-abbrev pub invariant-names : goal.invariant-names
-invariant-names g l = IsLooking g.K.Keeper.tells g.K.Keeper.store g.K.Keeper.faults l.initial.keeper l.keeper (take l.name-index l.names)
