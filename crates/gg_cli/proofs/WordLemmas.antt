@@ -4,7 +4,7 @@ use Rattle.std.specs.Prelude.{IfOk, nat_eq, codes}
 use Rattle.std.specs.List.{starts_with}
 use Rattle.std.proofs.lemmas.List.{drop_more, drop_all}
 use Rattle.thunk_codec.specs.declared.reference.Ref.{Ref}
-use Rattle.thunk_codec.specs.Maybe.{◌>>=◌}
+use Rattle.text_lines.specs.Maybe.{◌>>=◌}
 use Rattle.thunk_codec.specs.Path.{path_of}
 use Rattle.thunk_codec.specs.Reference.{ref_of}
 use Rattle.file_tree.specs.declared.item.Item.{Item}

@@ -5,7 +5,7 @@ use Rattle.std.specs.Option.{option_map}
 use Rattle.std.specs.Ordering.{eq_by_cmp}
 use Rattle.std.proofs.lemmas.Bool.{eq-eqb, ne_eqb}
 use Rattle.object_name.specs.Name.{ObjectName, name_cmp}
-use Rattle.thunk_codec.specs.Maybe.{◌>>=◌, ◌>>◌}
+use Rattle.text_lines.specs.Maybe.{◌>>=◌, ◌>>◌}
 use Rattle.blob_store.specs.Store.{Store}
 use Rattle.blob_store.proofs.Names.{eq_by_cmp-name, eq_by_cmp-other}
 use Rattle.reduction_cache.specs.Hit.{hit_of, is_held}

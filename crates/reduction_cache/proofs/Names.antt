@@ -11,10 +11,9 @@ use Rattle.object_name.specs.declared.kind.Kind.TheVariants.{Value, Thunk}
 use Rattle.object_name.specs.Kind.{letter_of_kind}
 use Rattle.object_name.specs.Name.{ObjectName, IsName, spelling, named_by}
 use Rattle.object_name.proofs.NameLemmas.{HasParts-spelling, length-spelling, named_by-spelling, spelling-named_by}
-use Rattle.thunk_codec.specs.Maybe.{◌>>=◌}
-use Rattle.thunk_codec.specs.Reading.{strip_prefix}
-use Rattle.thunk_codec.proofs.Steps.{bind_some}
-use Rattle.thunk_codec.proofs.Fields.{strip_prefix_takes}
+use Rattle.text_lines.specs.Maybe.{◌>>=◌, bind_some}
+use Rattle.text_lines.specs.Cuts.{strip_prefix}
+use Rattle.text_lines.proofs.CutLemmas.{strip_prefix_takes}
 use Rattle.thunk_codec.proofs.Loops.{with_prefix}
 use Rattle.reduction_cache.specs.Note.{name_line, note_end}
 use Rattle.reduction_cache.specs.Reading.{name_at, names_at}

@@ -8,11 +8,10 @@ use Rattle.std.proofs.lemmas.Option.{same_Some}
 use Rattle.std.proofs.lemmas.Slice.Eq.{bytes_eq-Decides}
 use Rattle.object_name.specs.declared.kind.Kind.{Kind}
 use Rattle.object_name.specs.declared.kind.Kind.TheVariants.{Value, Thunk}
-use Rattle.thunk_codec.specs.Maybe.{◌>>=◌}
-use Rattle.thunk_codec.specs.Reading.{strip_prefix}
+use Rattle.text_lines.specs.Maybe.{◌>>=◌, bind_some, test_some}
+use Rattle.text_lines.specs.Cuts.{strip_prefix}
 use Rattle.thunk_codec.specs.Reference.{is_thunk_kind}
-use Rattle.thunk_codec.proofs.Steps.{bind_some, test_some}
-use Rattle.thunk_codec.proofs.Fields.{strip_prefix_takes}
+use Rattle.text_lines.proofs.CutLemmas.{strip_prefix_takes}
 use Rattle.reduction_cache.specs.Note.{NoteOf, IsNote, Note, note_text, name_line, note_head, note_end}
 use Rattle.reduction_cache.specs.Reading.{name_at, names_at, note_of}
 use Rattle.reduction_cache.proofs.Names.{name_takes, name_again, names_take, names_again}

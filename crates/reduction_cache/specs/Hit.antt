@@ -3,7 +3,7 @@ use Rattle.std.specs.Prelude.{ℕ, List, length, ◌==◌, Bool, Option, Some, i
 use Rattle.std.specs.List.{list_all}
 use Rattle.std.specs.Ordering.{eq_by_cmp}
 use Rattle.object_name.specs.Name.{ObjectName, name_cmp}
-use Rattle.thunk_codec.specs.Maybe.{◌>>=◌, ◌>>◌, check}
+use Rattle.text_lines.specs.Maybe.{◌>>=◌, ◌>>◌, check}
 use Rattle.blob_store.specs.Store.{Store, Write, Note, held}
 use Rattle.reduction_cache.specs.Note.{note_text}
 use Rattle.reduction_cache.specs.Reading.{note_of}

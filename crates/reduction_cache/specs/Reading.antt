@@ -2,9 +2,9 @@
 use Rattle.std.specs.Prelude.{ℕ, zero, suc, List, [], ◌∷◌, take, drop, length, nat_eq, nat_le, Option, Some, bytes_eq, if◌then◌else◌}
 use Rattle.std.specs.List.{starts_with}
 use Rattle.object_name.specs.Name.{ObjectName, named_by}
-use Rattle.thunk_codec.specs.Maybe.{◌>>=◌, ◌>>◌, check}
+use Rattle.text_lines.specs.Maybe.{◌>>=◌, ◌>>◌, check}
 use Rattle.thunk_codec.specs.Reference.{is_thunk_kind}
-use Rattle.thunk_codec.specs.Reading.{strip_prefix}
+use Rattle.text_lines.specs.Cuts.{strip_prefix}
 use Rattle.reduction_cache.specs.Note.{NoteOf, note_head, note_end}
 
 -- a name and the line feed behind it

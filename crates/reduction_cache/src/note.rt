@@ -5,12 +5,12 @@ ghost use Rattle.std.specs.List.{flat_map, AllByRecursion};
 ghost use Rattle.object_name.specs.Name.{IsName};
 ghost use Rattle.std.specs.Option.{option_map};
 ghost use Rattle.object_name.specs.declared.kind.Kind.TheVariants.{Thunk};
-ghost use Rattle.thunk_codec.specs.Reading.{strip_prefix};
 ghost use Rattle.reduction_cache.specs.Note.{NoteOf, Note, name_line, note_text};
 ghost use Rattle.reduction_cache.specs.Reading.{name_at, names_at, note_of};
 
 use object_name::{Bytes, Kind, Many, Name};
 use std::alloc::{AllocError, Global};
+use text_lines::strip_prefix;
 
 /// How many characters spell a name.
 const SPELLING: usize = 52;
@@ -53,17 +53,6 @@ pub fn encode_note(alloc: Global, resolved: &Name, outputs: &[Name]) -> Result<B
     append_names(&mut text, outputs)?;
     text.append(b"end\n")?;
     Ok(text)
-}
-
-/// What stands behind a mark.
-fn strip_prefix<'a>(mark: &[u8], bytes: &'a [u8]) -> Option<&'a [u8]>
-    ensures { option_map (λ rest. rest.now) result ≡ strip_prefix mark.now bytes.now }
-{
-    if bytes.starts_with(mark) {
-        Some(&bytes[mark.len()..])
-    } else {
-        None
-    }
 }
 
 /// The name at the beginning of a line of its own, and what stands behind the line.

@@ -1,2 +1,4 @@
+pub mod Maybe
+pub mod Cuts
 pub mod Lines
 pub mod Blanks

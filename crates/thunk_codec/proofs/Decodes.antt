@@ -8,7 +8,7 @@ use Rattle.std.proofs.lemmas.Slice.Eq.{bytes_eq-Decides}
 use Rattle.object_name.specs.Name.{max_size}
 use Rattle.thunk_codec.specs.declared.decoding.DecodeFault.{DecodeFault}
 use Rattle.thunk_codec.specs.declared.decoding.DecodeFault.TheVariants.{BadThunk, Memory}
-use Rattle.thunk_codec.specs.Maybe.{◌>>=◌, ◌>>◌}
+use Rattle.text_lines.specs.Maybe.{◌>>=◌, ◌>>◌}
 use Rattle.thunk_codec.specs.Gives.{Gives, Refuses, only_if}
 use Rattle.thunk_codec.specs.Raw.{HasRefs}
 use Rattle.thunk_codec.specs.Thunk.{Parts, Text, text_of}

@@ -13,69 +13,13 @@ use Rattle.object_name.proofs.NumberLemmas.{number_of-decimal, decimal-number_of
 use Rattle.object_name.proofs.SpellingBytes.{spelling_without_feed}
 use Rattle.thunk_codec.specs.declared.reference.Ref.{Ref}
 use Rattle.thunk_codec.specs.declared.reference.Ref.TheVariants.{Value, Out}
-use Rattle.thunk_codec.specs.Maybe.{◌>>=◌, ◌>>◌}
+use Rattle.text_lines.specs.Maybe.{◌>>=◌, ◌>>◌, bind_some, test_some}
 use Rattle.thunk_codec.specs.Reference.{IsRef, ref_text, ref_of}
 use Rattle.thunk_codec.specs.Thunk.{counted}
-use Rattle.thunk_codec.specs.Reading.{strip_prefix, with_byte, split_at_byte, counted_at, ref_at, bytes_at, env_at, input_at}
-use Rattle.thunk_codec.proofs.Steps.{bind_some, test_some}
+use Rattle.text_lines.specs.Cuts.{strip_prefix, split_at_byte}
+use Rattle.text_lines.proofs.CutLemmas.{has_no, has_no_from, strip_prefix_takes, split_takes, split_again}
+use Rattle.thunk_codec.specs.Reading.{counted_at, ref_at, bytes_at, env_at, input_at}
 use Rattle.thunk_codec.proofs.References.{ref_spelled, ref_again}
-
--- ---- marks
-
-pub strip_prefix_takes : (mark bytes rest : List ℕ) → strip_prefix mark bytes ≡ Some rest → bytes ≡ mark ++ rest
-strip_prefix_takes mark bytes rest e =
-    let a = test_some (starts_with nat_eq bytes mark) (Some (drop (length mark) bytes)) rest e in
-    let prefix : mark ≡ take (length mark) bytes = (bytes_eq-Decides mark (take (length mark) bytes)).0 a.0 in
-    sym (take-append-drop (length mark) bytes) ∙ ap (λ (v : List ℕ). v ++ drop (length mark) bytes) (sym prefix) ∙ ap (λ (v : List ℕ). mark ++ v) (same_Some _ rest a.1)
-
--- ---- up to a byte
-
--- no byte is the stop
-abbrev pub has_no : ℕ → List ℕ → Bool
-has_no stop text = list_all (λ byte. not (byte == stop)) text
-
-pub split_takes : (stop : ℕ) (bytes : List ℕ) (x : List ℕ × List ℕ) → split_at_byte stop bytes ≡ Some x → (bytes ≡ x.0 ++ stop ∷ x.1) × (has_no stop x.0 ≡ true)
-unfolding split_at_byte
-split_takes stop [] x e = absurd cc
-split_takes stop (byte ∷ bytes) x e =
-    elim (cases_Bool (eqb byte stop)) [
-      | inl ends ↦
-          let found : ([], bytes) ≡ x = same_Some _ x (rw ends at e) in
-          subst (λ (v : List ℕ × List ℕ). (byte ∷ bytes ≡ v.0 ++ stop ∷ v.1) × (has_no stop v.0 ≡ true)) found (ap (λ (b : ℕ). b ∷ bytes) (eqb-true byte stop ends), refl)
-      | inr goes ↦
-          let a = bind_some (split_at_byte stop bytes) (λ read. Some (with_byte byte read)) x (rw goes at e) in
-          let others = split_takes stop bytes a.0 a.1 in
-          subst (λ (v : List ℕ × List ℕ). (byte ∷ bytes ≡ v.0 ++ stop ∷ v.1) × (has_no stop v.0 ≡ true)) (same_Some _ x a.2) (ap (λ (v : List ℕ). byte ∷ v) others.0, and_from _ _ (not_from_false _ goes) others.1)
-    ]
-
-pub split_again : (stop : ℕ) (prefix rest : List ℕ) → has_no stop prefix ≡ true → split_at_byte stop (prefix ++ stop ∷ rest) ≡ Some (prefix, rest)
-unfolding split_at_byte
-split_again stop [] rest h = rw (eq-eqb stop stop refl) refl
-split_again stop (byte ∷ prefix) rest h =
-    let parts = and_parts (not (eqb byte stop)) (has_no stop prefix) h in
-    rw (not-true _ parts.0, split_again stop prefix rest parts.1) refl
-
-split_none : (stop : ℕ) (bytes : List ℕ) → has_no stop bytes ≡ true → split_at_byte stop bytes ≡ None
-unfolding split_at_byte
-split_none stop [] h = refl
-split_none stop (byte ∷ bytes) h =
-    let parts = and_parts (not (eqb byte stop)) (has_no stop bytes) h in
-    rw (not-true _ parts.0, split_none stop bytes parts.1) refl
-
-has_no_from : (stop : ℕ) (text : List ℕ) → ((i : ℕ) → i < length text → get_or text i 0 ≡ stop → ⊥) → has_no stop text ≡ true
-has_no_from stop [] h = refl
-has_no_from stop (byte ∷ text) h = and_from _ _ (not_from_false _ (ne_eqb byte stop (h 0 (omega arith)))) (has_no_from stop text (λ i lt. h (suc i) (omega (arith, lt))))
-
--- the first stop byte, by its place
-pub split_found : (stop : ℕ) (bytes : List ℕ) (i : ℕ) → i < length bytes → get_or bytes i 0 ≡ stop → ((k : ℕ) → k < i → get_or bytes k 0 ≡ stop → ⊥)
-    → split_at_byte stop bytes ≡ Some (take i bytes, take (length bytes - (i + 1)) (drop (i + 1) bytes))
-split_found stop bytes i lt at before =
-    let cut : bytes ≡ take i bytes ++ stop ∷ drop (i + 1) bytes = sym (take-append-drop i bytes) ∙ ap (λ (v : List ℕ). take i bytes ++ v) (drop_more bytes i 0 lt ∙ ap (λ (b : ℕ). b ∷ drop (i + 1) bytes) at) in
-    let none : has_no stop (take i bytes) ≡ true = has_no_from stop (take i bytes) (λ k h. let kl : k < i = omega (arith, h, length-take i bytes) in λ e. before k kl (sym (get_or-take i bytes k 0 kl) ∙ e)) in
-    ap (split_at_byte stop) cut ∙ split_again stop (take i bytes) (drop (i + 1) bytes) none ∙ ap (λ (v : List ℕ). Some (take i bytes, v)) (sym (take_rest bytes (i + 1)))
-
-pub split_missed : (stop : ℕ) (bytes : List ℕ) → ((k : ℕ) → k < length bytes → get_or bytes k 0 ≡ stop → ⊥) → split_at_byte stop bytes ≡ None
-split_missed stop bytes none = split_none stop bytes (has_no_from stop bytes none)
 
 -- ---- bytes behind their number
 

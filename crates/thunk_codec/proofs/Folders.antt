@@ -8,11 +8,10 @@ use Rattle.std.proofs.lemmas.List.Sums.{suffix_len_is}
 use Rattle.std.proofs.lemmas.Grind.{reverse_onto}
 use Rattle.std.proofs.lemmas.Bool.{and_parts, not_from_false, true≢false, ne_eqb, le-leb, leb-true, leb-false, cases_Bool}
 use Rattle.std.proofs.lemmas.Option.{same_Some}
-use Rattle.thunk_codec.specs.Maybe.{◌>>◌}
+use Rattle.text_lines.specs.Maybe.{◌>>◌, bind_some, test_some}
 use Rattle.thunk_codec.specs.Components.{is_plain, is_component, with_component}
 use Rattle.thunk_codec.specs.Path.{is_slash, pieces_of, joined, after_pieces, components_of, path_of, is_path, max_path}
 use Rattle.thunk_codec.specs.Folder.{folder_text, folder_of, is_folder, parent_of, last_of, joined_from}
-use Rattle.thunk_codec.proofs.Steps.{bind_some, test_some}
 use Rattle.thunk_codec.proofs.Paths.{components_good, component_plain, components_plain, pieces_of-join, first_byte, joined_again, bytes_eq-not, bytes_eq-self, same_path, path_of-is_path, joined-cons, joined_before, plain_at, reversed_components}
 
 -- ---- folders

@@ -4,7 +4,7 @@ use Rattle.std.proofs.lemmas.List.{append-nil}
 use Rattle.thunk_codec.specs.declared.decoding.DecodeFault.{DecodeFault}
 use Rattle.thunk_codec.specs.declared.decoding.DecodeFault.TheVariants.{BadThunk, Memory}
 use Rattle.thunk_codec.specs.Gives.{Refuses}
-use Rattle.thunk_codec.specs.Maybe.{◌>>=◌}
+use Rattle.text_lines.specs.Maybe.{◌>>=◌}
 use Rattle.thunk_codec.specs.Reading.{lines_at, all_lines_at}
 use Rattle.thunk_codec.proofs.Fields.{IsReader}
 use Rattle.thunk_codec.proofs.Texts.{begins, begins_with}

@@ -15,10 +15,9 @@ use Rattle.std.proofs.lemmas.Slice.Eq.{bytes_eq-Decides}
 use Rattle.std.proofs.lemmas.List.Splits.{slice_split_at, slice_split_none}
 use Rattle.std.specs.Option.{option_map}
 use denote.Ref.{Bor}
-use Rattle.thunk_codec.specs.Maybe.{◌>>=◌, ◌>>◌}
+use Rattle.text_lines.specs.Maybe.{◌>>=◌, ◌>>◌, bind_some, test_some}
 use Rattle.thunk_codec.specs.Components.{is_plain_byte, is_plain, is_component, with_component}
 use Rattle.thunk_codec.specs.Path.{is_slash, pieces_of, joined, without_last, after_piece, after_pieces, is_printable, components_of, path_of, is_path, is_same_path, max_path}
-use Rattle.thunk_codec.proofs.Steps.{bind_some, test_some}
 
 plain_onto : (byte : ℕ) (pieces : List (List ℕ)) → is_plain_byte byte ≡ true → list_all is_plain pieces ≡ true → list_all is_plain (onto_first byte pieces) ≡ true
 plain_onto byte [] b h = and_from _ _ (and_from _ _ b refl) refl

@@ -9,33 +9,16 @@ use Rattle.std.proofs.lemmas.Slice.Eq.{starts_is, ends_is}
 use Rattle.object_name.specs.Name.{ObjectName}
 use Rattle.thunk_codec.specs.declared.reference.Ref.{Ref}
 use Rattle.thunk_codec.specs.declared.reference.Ref.TheVariants.{Value, Out}
-use Rattle.thunk_codec.specs.Maybe.{◌>>=◌}
+use Rattle.text_lines.specs.Maybe.{◌>>=◌, bind_some, test_some}
 use Rattle.thunk_codec.specs.Reference.{IsRef, ref_text, ref_of}
-use Rattle.thunk_codec.specs.Reading.{strip_prefix}
-use Rattle.thunk_codec.specs.Placeholder.{IsPlaceholder, before_feed, output_of, placeholder_of}
-use Rattle.thunk_codec.proofs.Steps.{bind_some, test_some}
+use Rattle.text_lines.specs.Cuts.{strip_prefix, before_feed}
+use Rattle.thunk_codec.specs.Placeholder.{IsPlaceholder, output_of, placeholder_of}
 use Rattle.thunk_codec.proofs.References.{ref_spelled, ref_again}
-use Rattle.thunk_codec.proofs.Fields.{strip_prefix_takes}
+use Rattle.text_lines.proofs.CutLemmas.{strip_prefix_takes, strip_prefix_again, feed_takes, feed_again}
 
 -- the first line
 abbrev first_line : List ℕ
 first_line = codes "gg-placeholder 1" ++ 10 ∷ []
-
-mark_again : (mark rest : List ℕ) → strip_prefix mark (mark ++ rest) ≡ Some rest
-mark_again mark rest =
-    let starts : starts_with nat_eq (mark ++ rest) mark ≡ true = (starts_is Decides-eqb (mark ++ rest) mark _ refl).1 rest refl in
-    rw starts (ap (λ (v : List ℕ). Some v) (drop_at mark rest (length mark) refl))
-
-feed_takes : (bytes text : List ℕ) → before_feed bytes ≡ Some text → bytes ≡ text ++ 10 ∷ []
-feed_takes bytes text e =
-    let a = test_some (ends_with nat_eq bytes (10 ∷ [])) (Some (take (length bytes - 1) bytes)) text e in
-    (ends_is Decides-eqb bytes (10 ∷ []) _ refl).0 a.0 ∙ ap (λ (v : List ℕ). v ++ 10 ∷ []) (same_Some _ text a.1)
-
-feed_again : (text : List ℕ) → before_feed (text ++ 10 ∷ []) ≡ Some text
-feed_again text =
-    let len : length (text ++ 10 ∷ []) - 1 ≡ length text = omega (arith, length-append text (10 ∷ [])) in
-    let ends : ends_with nat_eq (text ++ 10 ∷ []) (10 ∷ []) ≡ true = (ends_is Decides-eqb (text ++ 10 ∷ []) (10 ∷ []) _ refl).1 text refl in
-    rw (ends, len, take_at text (10 ∷ []) (length text) refl) refl
 
 output_is : (r : Ref) (read : ObjectName × ℕ) → output_of r ≡ Some read → r ≡ Out read.0 read.1
 output_is (Value name) read e = absurd cc
@@ -66,7 +49,7 @@ pub placeholder_again : (bytes : List ℕ) (name : ObjectName) (index : ℕ) →
 unfolding placeholder_of
 placeholder_again bytes name index h =
     let text = ref_text (Out name index) in
-    read_by first_line bytes (text ++ 10 ∷ []) text (Out name index) (name, index) (ap (strip_prefix first_line) h.text ∙ mark_again first_line (text ++ 10 ∷ [])) (feed_again text) (ref_again (Out name index) h.output) refl
+    read_by first_line bytes (text ++ 10 ∷ []) text (Out name index) (name, index) (ap (strip_prefix first_line) h.text ∙ strip_prefix_again first_line (text ++ 10 ∷ [])) (feed_again text) (ref_again (Out name index) h.output) refl
 
 pub placeholder_found : (bytes : List ℕ) (found : Option (ObjectName × ℕ)) → found ≡ placeholder_of bytes → IfSome found (λ read. IsPlaceholder bytes read.0 read.1)
 placeholder_found bytes None e = tt

@@ -12,9 +12,8 @@ use Rattle.object_name.proofs.NameLemmas.{length-spelling, named_by-spelling, sp
 use Rattle.object_name.proofs.NumberLemmas.{number_of-decimal, decimal-number_of}
 use Rattle.thunk_codec.specs.declared.reference.Ref.{Ref}
 use Rattle.thunk_codec.specs.declared.reference.Ref.TheVariants.{Value, Out}
-use Rattle.thunk_codec.specs.Maybe.{◌>>=◌, ◌>>◌}
+use Rattle.text_lines.specs.Maybe.{◌>>=◌, ◌>>◌, bind_some, test_some}
 use Rattle.thunk_codec.specs.Reference.{IsRef, ref_text, is_thunk_kind, value_ref_of, out_ref_of, ref_of}
-use Rattle.thunk_codec.proofs.Steps.{bind_some, test_some}
 
 value_kind : (kind : Kind) → is_thunk_kind kind ≡ false → kind ≡ kinds.Value
 value_kind kinds.Value e = refl

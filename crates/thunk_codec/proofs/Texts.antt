@@ -8,13 +8,14 @@ use Rattle.std.proofs.lemmas.List.Concat.{flat_map-cons}
 use Rattle.std.proofs.lemmas.Option.{same_Some}
 use Rattle.std.proofs.lemmas.Slice.Eq.{bytes_eq-Decides}
 use Rattle.thunk_codec.specs.declared.reference.Ref.{Ref}
-use Rattle.thunk_codec.specs.Maybe.{◌>>=◌}
+use Rattle.text_lines.specs.Maybe.{◌>>=◌, bind_some}
 use Rattle.thunk_codec.specs.Reference.{IsRef, ref_text}
 use Rattle.thunk_codec.specs.Thunk.{Parts, line, counted, head_line, end_line, function_line, arg_line, env_line, input_line, output_line, text_of}
 use Rattle.thunk_codec.specs.Raw.{HasRefs}
-use Rattle.thunk_codec.specs.Reading.{strip_prefix, ref_at, bytes_at, env_at, input_at, lines_at, all_lines_at, parts_at}
-use Rattle.thunk_codec.proofs.Steps.{bind_some}
-use Rattle.thunk_codec.proofs.Fields.{IsReader, IsShort, IsPair, IsInput, env_said, input_said, strip_prefix_takes, ref_takes, ref_at-again, bytes_reader, env_reader, input_reader}
+use Rattle.text_lines.specs.Cuts.{strip_prefix}
+use Rattle.text_lines.proofs.CutLemmas.{strip_prefix_takes}
+use Rattle.thunk_codec.specs.Reading.{ref_at, bytes_at, env_at, input_at, lines_at, all_lines_at, parts_at}
+use Rattle.thunk_codec.proofs.Fields.{IsReader, IsShort, IsPair, IsInput, env_said, input_said, ref_takes, ref_at-again, bytes_reader, env_reader, input_reader}
 
 -- lines of a letter
 abbrev pub lines_of : {A : Type 0} → ℕ → (A → List ℕ) → List A → List ℕ

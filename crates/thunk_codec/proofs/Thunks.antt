@@ -9,15 +9,15 @@ use Rattle.std.proofs.lemmas.Option.{same_Some}
 use Rattle.std.proofs.lemmas.Slice.Eq.{bytes_eq-Decides}
 use Rattle.object_name.specs.Name.{max_size}
 use Rattle.thunk_codec.specs.declared.reference.Ref.{Ref}
-use Rattle.thunk_codec.specs.Maybe.{◌>>◌}
+use Rattle.text_lines.specs.Maybe.{◌>>◌, bind_some, test_some}
 use Rattle.thunk_codec.specs.Path.{is_path}
 use Rattle.thunk_codec.specs.Reference.{IsRef}
 use Rattle.thunk_codec.specs.Thunk.{Parts, IsThunk, Text, text_of, counted, arg_line, env_line, input_line, output_line, has_no_zero, is_letter, is_digit, is_identifier, is_strictly_increasing, are_distinct}
 use Rattle.thunk_codec.specs.Raw.{HasRefs}
 use Rattle.thunk_codec.specs.Reading.{parts_at, keeps_rules, thunk_of}
-use Rattle.thunk_codec.proofs.Steps.{bind_some, test_some}
 use Rattle.thunk_codec.proofs.Lengths.{length-arg_line, length-output_line, length-line, length-counted, length-input_line}
-use Rattle.thunk_codec.proofs.Fields.{has_no, IsShort, IsPair, IsInput}
+use Rattle.text_lines.proofs.CutLemmas.{has_no}
+use Rattle.thunk_codec.proofs.Fields.{IsShort, IsPair, IsInput}
 use Rattle.thunk_codec.proofs.Texts.{IsReadable, parts_take, parts_again}
 
 -- ---- the parts of a thunk are readable

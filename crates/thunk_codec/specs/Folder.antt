@@ -1,7 +1,7 @@
 -- Folders: normal paths that may have no component, and are then spelled `.`.
 use Rattle.std.specs.Prelude.{ℕ, List, [], ◌∷◌, ◌++◌, nat_le, not, Bool, Option, Some, None, length, reverse, drop, codes, slice_index, unwrap_or}
 use Rattle.std.specs.List.{last_or}
-use Rattle.thunk_codec.specs.Maybe.{◌>>=◌, ◌>>◌, check}
+use Rattle.text_lines.specs.Maybe.{◌>>=◌, ◌>>◌, check}
 use Rattle.thunk_codec.specs.Path.{max_path, is_slash, pieces_of, components_of, joined, path_of, is_same_path}
 
 -- how a folder is spelled whose components are joined to these bytes

@@ -1,4 +1,3 @@
-pub mod Maybe
 pub mod Path
 pub mod Components
 pub mod Reference

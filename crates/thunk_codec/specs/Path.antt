@@ -1,7 +1,7 @@
 -- Normal paths: a text cut at each `/`, without the components that are empty or `.`, each `..` taking away the one before it.
 use Rattle.std.specs.Prelude.{ℕ, List, [], ◌∷◌, ◌==◌, ◌&&◌, ◌||◌, not, nat_le, Bool, false, Option, Some, None, length, reverse, bytes_eq, codes, slice_index, if◌then◌else◌}
 use Rattle.std.specs.List.{list_all, join_with_byte, slice_split}
-use Rattle.thunk_codec.specs.Maybe.{◌>>=◌, ◌>>◌, check}
+use Rattle.text_lines.specs.Maybe.{◌>>=◌, ◌>>◌, check}
 
 -- the greatest length of a path, in bytes
 abbrev pub max_path : ℕ

@@ -4,9 +4,9 @@ use Rattle.std.specs.List.{ends_with}
 use Rattle.object_name.specs.Name.{ObjectName}
 use Rattle.thunk_codec.specs.declared.reference.Ref.{Ref}
 use Rattle.thunk_codec.specs.declared.reference.Ref.TheVariants.{Value, Out}
-use Rattle.thunk_codec.specs.Maybe.{◌>>=◌, ◌>>◌, check}
+use Rattle.text_lines.specs.Maybe.{◌>>=◌, ◌>>◌, check}
 use Rattle.thunk_codec.specs.Reference.{IsRef, ref_text, ref_of}
-use Rattle.thunk_codec.specs.Reading.{strip_prefix}
+use Rattle.text_lines.specs.Cuts.{strip_prefix, before_feed}
 
 -- the text: `gg-placeholder 1`, and the REF, each in a line
 abbrev pub placeholder_text : ObjectName → ℕ → List ℕ
@@ -16,12 +16,6 @@ placeholder_text name index = codes "gg-placeholder 1" ++ 10 ∷ (ref_text (Out 
 pub record IsPlaceholder (bytes : List ℕ) (name : ObjectName) (index : ℕ) : Type 0 where
   pub output : IsRef (Out name index)
   pub text : bytes ≡ placeholder_text name index
-
--- what stands before a line feed at the end
-abbrev pub before_feed : List ℕ → Option (List ℕ)
-before_feed bytes = do
-  check (ends_with nat_eq bytes (10 ∷ []))
-  Some (take (length bytes - 1) bytes)
 
 -- the thunk and the place of an output
 abbrev pub output_of : Ref → Option (ObjectName × ℕ)

@@ -4,26 +4,11 @@ use Rattle.std.specs.List.{starts_with, list_all}
 use Rattle.object_name.specs.Number.{number_of}
 use Rattle.object_name.specs.Name.{max_size}
 use Rattle.thunk_codec.specs.declared.reference.Ref.{Ref}
-use Rattle.thunk_codec.specs.Maybe.{◌>>=◌, ◌>>◌, check}
+use Rattle.text_lines.specs.Cuts.{strip_prefix, split_at_byte}
+use Rattle.text_lines.specs.Maybe.{◌>>=◌, ◌>>◌, check}
 use Rattle.thunk_codec.specs.Path.{is_path}
 use Rattle.thunk_codec.specs.Reference.{ref_of}
 use Rattle.thunk_codec.specs.Thunk.{Parts, head_line, end_line, has_no_zero, is_identifier, is_strictly_increasing, are_distinct}
-
--- what stands behind a mark
-abbrev pub strip_prefix : List ℕ → List ℕ → Option (List ℕ)
-strip_prefix mark bytes = do
-  check (starts_with nat_eq bytes mark)
-  Some (drop (length mark) bytes)
-
--- one byte more in front of what was read
-abbrev pub with_byte : ℕ → List ℕ × List ℕ → List ℕ × List ℕ
-with_byte byte read = (byte ∷ read.0, read.1)
-
--- the bytes before the first stop byte, and those behind it
-unfoldable pub split_at_byte : ℕ → List ℕ → Option (List ℕ × List ℕ)
-split_at_byte stop [] = None
-split_at_byte stop (byte ∷ bytes) =
-    if byte == stop then Some ([], bytes) else (split_at_byte stop bytes >>= λ read. Some (with_byte byte read))
 
 -- `LEN:` and so many bytes
 unfoldable pub counted_at : List ℕ → Option (List ℕ × List ℕ)

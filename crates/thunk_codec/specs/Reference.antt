@@ -6,7 +6,7 @@ use Rattle.object_name.specs.Number.{number_of}
 use Rattle.object_name.specs.Name.{IsName, spelling, named_by}
 use Rattle.thunk_codec.specs.declared.reference.Ref.{Ref}
 use Rattle.thunk_codec.specs.declared.reference.Ref.TheVariants.{Value, Out}
-use Rattle.thunk_codec.specs.Maybe.{◌>>=◌, ◌>>◌, check}
+use Rattle.text_lines.specs.Maybe.{◌>>=◌, ◌>>◌, check}
 
 -- a value is named by a name of a value, an output by a name of a thunk and a place
 abbrev pub IsRef : Ref → Type 0

@@ -1,15 +1,14 @@
 //! Placeholders: files that stand for outputs of thunks.
 
 ghost use Rattle.std.specs.Prelude.{◌≡◌, ℕ, Some, IfOk, IfSome};
-ghost use Rattle.std.specs.Option.{option_copied};
 ghost use Rattle.object_name.specs.Name.{ObjectName};
 ghost use Rattle.object_name.specs.declared.kind.Kind.TheVariants.{Thunk};
-ghost use Rattle.thunk_codec.specs.Placeholder.{IsPlaceholder, before_feed, output_of, placeholder_of};
+ghost use Rattle.thunk_codec.specs.Placeholder.{IsPlaceholder, output_of, placeholder_of};
 
-use crate::reading::strip_mark;
 use crate::reference::{Ref, vouch};
 use object_name::{Bytes, Name};
 use std::alloc::{AllocError, Global};
+use text_lines::{before_feed, strip_prefix};
 
 /// The first line.
 const FIRST_LINE: &[u8] = b"gg-placeholder 1\n";
@@ -40,18 +39,8 @@ pub fn read_placeholder(bytes: &[u8]) -> Option<(Name, u32)>
 fn read_output(bytes: &[u8]) -> Option<(Name, u32)>
     ensures { result ≡ placeholder_of bytes.now }
 {
-    let text = before_feed(strip_mark(FIRST_LINE, bytes)?)?;
+    let text = before_feed(strip_prefix(FIRST_LINE, bytes)?)?;
     output(&Ref::read(text)?)
-}
-
-/// What stands before a line feed at the end.
-fn before_feed(bytes: &[u8]) -> Option<&[u8]>
-    ensures { option_copied result ≡ before_feed bytes.now }
-{
-    if !bytes.ends_with(b"\n") {
-        return None;
-    }
-    Some(&bytes[..bytes.len() - 1])
 }
 
 /// The thunk and the place of an output.

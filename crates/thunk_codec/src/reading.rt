@@ -1,43 +1,28 @@
 //! Reading what the lines of a thunk's text say, from the prefix.
 
 ghost use Rattle.std.specs.Prelude.{◌≡◌, Some, None};
-ghost use Rattle.std.specs.Option.{option_copied};
 ghost use Rattle.object_name.specs.Number.{number_of};
 ghost use Rattle.thunk_codec.specs.Gives.{Gives};
-ghost use Rattle.thunk_codec.specs.Reading.{strip_prefix, split_at_byte, counted_at, ref_at, bytes_at, env_at, input_at};
+ghost use Rattle.text_lines.specs.Cuts.{strip_prefix, split_at_byte};
+ghost use Rattle.thunk_codec.specs.Reading.{counted_at, ref_at, bytes_at, env_at, input_at};
 
 use crate::decoding::DecodeFault;
 use crate::reference::Ref;
 use object_name::{Bytes, read_number};
 use std::alloc::Global;
 
-/// What stands behind a mark, where the mark stands in front.
-pub fn strip_mark<'a>(mark: &[u8], bytes: &'a [u8]) -> Option<&'a [u8]>
-    ensures { option_copied result ≡ strip_prefix mark.now bytes.now }
+/// What comes after a prefix.
+pub fn strip_prefix<'a>(prefix: &[u8], bytes: &'a [u8]) -> Result<&'a [u8], DecodeFault>
+    ensures { Gives (λ x. x.now) result (strip_prefix prefix.now bytes.now) }
 {
-    if !bytes.starts_with(mark) {
-        return None;
-    }
-    Some(&bytes[mark.len()..])
+    text_lines::strip_prefix(prefix, bytes).ok_or(DecodeFault::BadThunk)
 }
 
-/// What stands behind a mark.
-pub fn strip_prefix<'a>(mark: &[u8], bytes: &'a [u8]) -> Result<&'a [u8], DecodeFault>
-    ensures { Gives (λ x. x.now) result (strip_prefix mark.now bytes.now) }
-{
-    strip_mark(mark, bytes).ok_or(DecodeFault::BadThunk)
-}
-
-/// The bytes before the first stop byte, and those behind it.
+/// The bytes before the first stop byte, and those after it.
 fn split_at_byte(stop: u8, bytes: &[u8]) -> Result<(&[u8], &[u8]), DecodeFault>
     ensures { Gives (λ x. (x.0.now, x.1.now)) result (split_at_byte stop bytes.now) }
 {
-    for (i, byte) in bytes.iter().enumerate() {
-        if *byte == stop {
-            return Ok((&bytes[..i], &bytes[i + 1..]));
-        }
-    }
-    Err(DecodeFault::BadThunk)
+    text_lines::split_at_byte(stop, bytes).ok_or(DecodeFault::BadThunk)
 }
 
 /// The number that a text spells.

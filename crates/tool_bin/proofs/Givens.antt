@@ -1,7 +1,7 @@
 -- Taking the inputs of members one after another, as a loop does.
 use Rattle.std.proofs.Common.{◌≡◌, ℕ, ◌+◌, ◌-◌, ◌<◌, ◌≤◌, List, [], ◌∷◌, ◌++◌, length, take, drop, get_or, append_assoc, Option, Some, None, refl, sym, ap, ◌∙◌, arith}
 use Rattle.std.proofs.lemmas.List.{append-nil, take_rest, get_or-drop, drop_all, drop-drop, length-drop}
-use Rattle.thunk_codec.specs.Maybe.{◌>>=◌}
+use Rattle.text_lines.specs.Maybe.{◌>>=◌}
 use Rattle.tool_bin.specs.Archive.{ArchiveMember}
 use Rattle.tool_bin.specs.Ar.{given_from, member_from}
 

@@ -5,9 +5,8 @@ use Rattle.std.specs.List.{starts_with}
 use Rattle.std.proofs.lemmas.List.{append-nil}
 use Rattle.std.proofs.lemmas.Bool.{leb-true, eqb-true}
 use Rattle.std.proofs.lemmas.Option.{same_Some}
-use Rattle.thunk_codec.specs.Maybe.{◌>>=◌}
-use Rattle.thunk_codec.specs.Reading.{strip_prefix}
-use Rattle.thunk_codec.proofs.Steps.{bind_some, test_some}
+use Rattle.text_lines.specs.Maybe.{◌>>=◌, bind_some, test_some}
+use Rattle.text_lines.specs.Cuts.{strip_prefix}
 use Rattle.tool_bin.specs.Archive.{ArchiveMember, padding}
 use Rattle.tool_bin.specs.ArchiveReading.{header_at, name_of, size_of, contents_at, member_at, members_at, all_members}
 

@@ -7,7 +7,7 @@ use Rattle.std.specs.List.{flat_map, list_all, AllByRecursion}
 use Rattle.object_name.proofs.NumberLemmas.{number_of-decimal}
 use Rattle.text_lines.specs.Lines.{lines_of}
 use Rattle.text_lines.specs.Blanks.{words_of}
-use Rattle.thunk_codec.specs.Maybe.{◌>>=◌}
+use Rattle.text_lines.specs.Maybe.{◌>>=◌}
 use Rattle.thunk_codec.specs.Thunk.{is_identifier}
 use Rattle.tool_bin.specs.declared.assembly.Assembly.{Assembly}
 use Rattle.tool_bin.specs.declared.instruction.Instruction.{Instruction}

@@ -8,8 +8,7 @@ use Rattle.std.proofs.lemmas.Grind.{flat_map-append}
 use Rattle.std.proofs.lemmas.Bool.{and_parts, ltb-true}
 use Rattle.std.proofs.lemmas.Option.{same_Some}
 use Rattle.thunk_codec.specs.Job.{count}
-use Rattle.thunk_codec.specs.Maybe.{◌>>=◌}
-use Rattle.thunk_codec.proofs.Steps.{bind_some, test_some}
+use Rattle.text_lines.specs.Maybe.{◌>>=◌, bind_some, test_some}
 use Rattle.tool_bin.specs.Archive.{ArchiveMember, archive_mark, archive_text, header, is_member, is_member_name, member_text, padding, part, size_limit, table_name}
 use Rattle.tool_bin.specs.ArchiveReading.{member_at}
 use Rattle.tool_bin.specs.SymbolTable.{ended, first_place, is_word, part_len, place_behind, places_from, size_within, symbols_of, table_of, table_size, table_with, words_of}

@@ -5,7 +5,7 @@ use Rattle.std.specs.List.{list_all}
 use Rattle.std.proofs.lemmas.List.{map-append, length-map, length-replicate, length-append}
 use Rattle.std.proofs.lemmas.Bool.{cases_lt, le-ltb}
 use Rattle.std.proofs.Math.Bool.{and-false}
-use Rattle.thunk_codec.specs.Maybe.{◌>>=◌}
+use Rattle.text_lines.specs.Maybe.{◌>>=◌}
 use Rattle.tool_bin.specs.Archive.{ArchiveMember}
 use Rattle.tool_bin.specs.SymbolTable.{capped, ended, first_place, is_word, part_len, places_from, size_within, symbols_of, table_of, table_size, table_with, word_of, words_of}
 

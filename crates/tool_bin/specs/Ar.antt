@@ -4,7 +4,7 @@ use Rattle.std.specs.List.{list_all}
 use Rattle.thunk_codec.specs.declared.job.Job.{Job}
 use Rattle.thunk_codec.specs.declared.job.Outcome.{Outcome}
 use Rattle.thunk_codec.specs.declared.job.Outcome.TheVariants.{Done, Failed}
-use Rattle.thunk_codec.specs.Maybe.{◌>>=◌, ◌>>◌, check}
+use Rattle.text_lines.specs.Maybe.{◌>>=◌, ◌>>◌, check}
 use Rattle.tool_bin.specs.Archive.{ArchiveMember, ArchiveContents, is_member, archive_text}
 use Rattle.tool_bin.specs.ArchiveReading.{archive_of}
 use Rattle.tool_bin.specs.SymbolTable.{table_of}

@@ -3,8 +3,8 @@ use Rattle.std.specs.Prelude.{ℕ, zero, suc, List, [], ◌∷◌, ◌+◌, ◌=
 use Rattle.std.specs.List.{list_all, starts_with, ends_with}
 use Rattle.std.specs.Char.{is_ascii_digit}
 use Rattle.object_name.specs.Number.{digits_value}
-use Rattle.thunk_codec.specs.Maybe.{◌>>=◌, ◌>>◌, check}
-use Rattle.thunk_codec.specs.Reading.{strip_prefix}
+use Rattle.text_lines.specs.Maybe.{◌>>=◌, ◌>>◌, check}
+use Rattle.text_lines.specs.Cuts.{strip_prefix}
 use Rattle.tool_bin.specs.Archive.{ArchiveMember, ArchiveContents, archive_mark, header_end, field, padding, table_name, is_member_name}
 
 -- a space

@@ -6,7 +6,7 @@ use Rattle.text_lines.specs.Lines.{lines_of}
 use Rattle.text_lines.specs.Blanks.{words_of}
 use Rattle.thunk_codec.specs.declared.job.Job.{Job}
 use Rattle.thunk_codec.specs.declared.job.Outcome.{Outcome}
-use Rattle.thunk_codec.specs.Maybe.{◌>>=◌, ◌>>◌, check}
+use Rattle.text_lines.specs.Maybe.{◌>>=◌, ◌>>◌, check}
 use Rattle.thunk_codec.specs.Thunk.{is_identifier}
 use Rattle.tool_bin.specs.declared.definition.Definition.{Definition}
 use Rattle.tool_bin.specs.declared.instruction.Instruction.{Instruction}

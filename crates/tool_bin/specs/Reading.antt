@@ -3,7 +3,7 @@ use Rattle.std.specs.Prelude.{ℕ, List, [], ◌∷◌, ◌&&◌, Option, Some, 
 use Rattle.object_name.specs.Number.{number_of}
 use Rattle.text_lines.specs.Lines.{lines_of}
 use Rattle.text_lines.specs.Blanks.{words_of}
-use Rattle.thunk_codec.specs.Maybe.{◌>>=◌}
+use Rattle.text_lines.specs.Maybe.{◌>>=◌}
 use Rattle.tool_bin.specs.declared.assembly.Assembly.{Assembly}
 use Rattle.tool_bin.specs.declared.instruction.Instruction.{Instruction}
 use Rattle.tool_bin.specs.declared.object.Object.{Object}

@@ -3,7 +3,7 @@ use Rattle.std.specs.Prelude.{ℕ, List, [], ◌∷◌, length, ◌==◌, Option
 use Rattle.thunk_codec.specs.declared.job.Job.{Job}
 use Rattle.thunk_codec.specs.declared.job.Outcome.{Outcome}
 use Rattle.thunk_codec.specs.declared.job.Outcome.TheVariants.{Done, Failed}
-use Rattle.thunk_codec.specs.Maybe.{◌>>◌, check}
+use Rattle.text_lines.specs.Maybe.{◌>>◌, check}
 
 -- the bytes of the input `in`: there is no other input
 abbrev pub only_input : List (List ℕ × List ℕ) → Option (List ℕ)

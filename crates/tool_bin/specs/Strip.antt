@@ -3,7 +3,7 @@ use Rattle.std.specs.Prelude.{ℕ, List, [], Option, Some}
 use Rattle.std.specs.Option.{option_or}
 use Rattle.thunk_codec.specs.declared.job.Job.{Job}
 use Rattle.thunk_codec.specs.declared.job.Outcome.{Outcome}
-use Rattle.thunk_codec.specs.Maybe.{◌>>=◌}
+use Rattle.text_lines.specs.Maybe.{◌>>=◌}
 use Rattle.tool_bin.specs.declared.object.Object.{Object}
 use Rattle.tool_bin.specs.Object.{object_head, executable_head, object_text}
 use Rattle.tool_bin.specs.Reading.{object_of}

@@ -2,7 +2,7 @@
 use Rattle.std.specs.Prelude.{ℕ, List, [], ◌∷◌, ◌++◌, ◌+◌, ◌*◌, ◌-◌, ◌%◌, ◌^◌, min, nat_lt, length, replicate, sum_by, unwrap_or, Bool, Option, Some, None, if◌then◌else◌}
 use Rattle.std.specs.List.{list_all, flat_map}
 use Rattle.thunk_codec.specs.Job.{count}
-use Rattle.thunk_codec.specs.Maybe.{◌>>=◌, ◌>>◌, check}
+use Rattle.text_lines.specs.Maybe.{◌>>=◌, ◌>>◌, check}
 use Rattle.tool_bin.specs.Archive.{ArchiveMember, archive_mark, size_limit}
 use Rattle.tool_bin.specs.Reading.{symbol_names}
 

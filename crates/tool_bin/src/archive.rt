@@ -1,15 +1,13 @@
 //! Archives: what they hold, and reading them.
 
 ghost use Rattle.std.specs.Prelude.{◌≡◌, [], false, IfOk};
-ghost use Rattle.std.specs.Option.{option_copied};
-ghost use Rattle.thunk_codec.specs.Reading.{strip_prefix};
-ghost use Rattle.tool_bin.specs.Archive.{archive_mark};
 ghost use Rattle.tool_bin.specs.ArchiveReading.{archive_of, begins_with_table, with_table, without_table};
 
 use crate::archive_reading::{all_members, behind_table};
 use object_name::Many;
 use std::alloc::{AllocError, Global};
 use std::marker::Model;
+use text_lines::strip_prefix;
 
 /// What every archive begins with.
 pub const ARCHIVE_MARK: &[u8] = b"!<arch>\n";
@@ -105,16 +103,6 @@ impl<'a> Archive<'a> {
     }
 }
 
-/// What stands behind the mark, where it stands in front.
-fn behind_mark(bytes: &[u8]) -> Option<&[u8]>
-    ensures { option_copied result ≡ strip_prefix archive_mark bytes.now }
-{
-    if !bytes.starts_with(ARCHIVE_MARK) {
-        return None;
-    }
-    Some(&bytes[8..])
-}
-
 /// Whether the bytes begin as a table of symbols.
 fn begins_with_table(bytes: &[u8]) -> bool
     ensures { result ≡ begins_with_table bytes.now }
@@ -157,7 +145,7 @@ fn without_table(alloc: Global, bytes: &[u8]) -> Result<Option<Archive<'_>>, All
 pub fn read_archive(alloc: Global, bytes: &[u8]) -> Result<Option<Archive<'_>>, AllocError>
     ensures { IfOk result (λ read. read ≡ archive_of bytes.now) }
 {
-    let Some(body) = behind_mark(bytes) else {
+    let Some(body) = strip_prefix(ARCHIVE_MARK, bytes) else {
         return Ok(None);
     };
     if begins_with_table(body) {

@@ -5,13 +5,14 @@ ghost use Rattle.std.specs.Char.{is_ascii_digit};
 ghost use Rattle.object_name.specs.Number.{digits_value};
 ghost use Rattle.std.specs.List.{list_all};
 ghost use Rattle.std.specs.Option.{option_copied, option_map};
-ghost use Rattle.thunk_codec.specs.Reading.{strip_prefix};
+ghost use Rattle.text_lines.specs.Cuts.{strip_prefix};
 ghost use Rattle.tool_bin.specs.Archive.{is_member_name, is_name_byte, padding};
 ghost use Rattle.tool_bin.specs.ArchiveReading.{all_members, behind_table, contents_at, header_at, is_slash, is_space, member_at, name_in, name_of, size_in, size_of};
 
 use crate::archive::Member;
 use object_name::Many;
 use std::alloc::{AllocError, Global};
+use text_lines::strip_prefix;
 
 /// The length of a header.
 const HEADER_LEN: usize = 60;
@@ -146,17 +147,14 @@ fn size_of(header: &[u8]) -> Option<u64>
     size_in(&header[48..58])
 }
 
-/// What stands behind the padding of contents of this size, where it stands in front.
-fn behind_padding(size: u64, bytes: &[u8]) -> Option<&[u8]>
+/// What comes after the padding of contents of this size. None where the bytes do not begin with it.
+fn after_padding(size: u64, bytes: &[u8]) -> Option<&[u8]>
     ensures { option_copied result ≡ strip_prefix (padding size) bytes.now }
 {
     if size % 2 == 0 {
         return Some(bytes);
     }
-    if !bytes.starts_with(b"\n") {
-        return None;
-    }
-    Some(&bytes[1..])
+    strip_prefix(b"\n", bytes)
 }
 
 /// Contents of this size, and what stands behind their padding.
@@ -168,7 +166,7 @@ fn contents_at(size: u64, bytes: &[u8]) -> Option<(&[u8], &[u8])>
         return None;
     }
     let (contents, behind) = bytes.split_at(size as usize);
-    let rest = behind_padding(size, behind)?;
+    let rest = after_padding(size, behind)?;
     Some((contents, rest))
 }
 

@@ -7,7 +7,7 @@ use Rattle.thunk_codec.specs.declared.job.Outcome.{Outcome}
 use Rattle.thunk_codec.specs.declared.job.Outcome.TheVariants.{Done, Failed}
 use Rattle.thunk_codec.specs.Folder.{is_folder}
 use Rattle.thunk_codec.specs.Job.{input_at}
-use Rattle.thunk_codec.specs.Maybe.{◌>>=◌, ◌>>◌, check}
+use Rattle.text_lines.specs.Maybe.{◌>>=◌, ◌>>◌, check}
 use Rattle.thunk_codec.specs.Thunk.{is_identifier}
 use Rattle.tool_text.specs.declared.failure.Failure.{Failure}
 use Rattle.tool_text.specs.declared.failure.Failure.TheVariants.{BadDirective, HeaderNotFound, TooDeep, TooManyLines, OutputTooLong}

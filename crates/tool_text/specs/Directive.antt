@@ -2,7 +2,7 @@
 use Rattle.std.specs.Prelude.{ℕ, List, [], ◌∷◌, ◌==◌, ◌||◌, ◌&&◌, not, nat_le, Bool, Option, Some, None, length, drop, bytes_eq, codes, if◌then◌else◌}
 use Rattle.std.specs.List.{list_any, take_while}
 use Rattle.object_name.specs.Number.{number_of}
-use Rattle.thunk_codec.specs.Maybe.{◌>>=◌, ◌>>◌, check}
+use Rattle.text_lines.specs.Maybe.{◌>>=◌, ◌>>◌, check}
 use Rattle.thunk_codec.specs.Thunk.{is_letter, is_digit, is_identifier}
 use Rattle.text_lines.specs.Blanks.{skip_blanks, trimmed, at_blank}
 

@@ -4,7 +4,7 @@ use Rattle.object_name.specs.Number.{number_of}
 use Rattle.thunk_codec.specs.declared.job.Job.{Job}
 use Rattle.thunk_codec.specs.declared.job.Outcome.{Outcome}
 use Rattle.thunk_codec.specs.declared.job.Outcome.TheVariants.{Failed}
-use Rattle.thunk_codec.specs.Maybe.{◌>>=◌, ◌>>◌, check}
+use Rattle.text_lines.specs.Maybe.{◌>>=◌, ◌>>◌, check}
 
 -- the status that a text says, a canonical decimal number of 1 to 200
 abbrev pub status_in : List ℕ → Option ℕ

@@ -1,8 +1,8 @@
 -- Numbers in arguments and in files.
 use Rattle.std.specs.Prelude.{ℕ, List, [], ◌∷◌, ◌++◌, Option, decimal}
 use Rattle.object_name.specs.Number.{number_of}
-use Rattle.thunk_codec.specs.Maybe.{◌>>=◌}
-use Rattle.thunk_codec.specs.Placeholder.{before_feed}
+use Rattle.text_lines.specs.Maybe.{◌>>=◌}
+use Rattle.text_lines.specs.Cuts.{before_feed}
 
 -- a number and a line feed
 abbrev pub number_line : ℕ → List ℕ

@@ -1,22 +1,11 @@
 //! Numbers in files.
 
 ghost use Rattle.std.specs.Prelude.{◌≡◌, IfOk};
-ghost use Rattle.std.specs.Option.{option_copied};
-ghost use Rattle.thunk_codec.specs.Placeholder.{before_feed};
 ghost use Rattle.tool_text.specs.Numbers.{number_in, number_line};
 
 use object_name::{Bytes, read_number, write_number};
 use std::alloc::{AllocError, Global};
-
-/// What stands before a line feed at the end.
-fn before_feed(bytes: &[u8]) -> Option<&[u8]>
-    ensures { option_copied result ≡ before_feed bytes.now }
-{
-    if !bytes.ends_with(b"\n") {
-        return None;
-    }
-    Some(&bytes[..bytes.len() - 1])
-}
+use text_lines::before_feed;
 
 /// The number that a file holds, followed by a line feed.
 pub(crate) fn number_in(bytes: &[u8]) -> Option<u64>
