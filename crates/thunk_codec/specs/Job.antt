@@ -6,7 +6,7 @@ use Rattle.object_name.specs.Name.{ObjectName}
 use Rattle.thunk_codec.specs.declared.job.Job.{Job}
 use Rattle.thunk_codec.specs.declared.reference.Ref.{Ref}
 use Rattle.thunk_codec.specs.declared.reference.Ref.TheVariants.{Value, Out}
-use Rattle.thunk_codec.specs.Maybe.{◌>>◌, check}
+use Rattle.text_lines.specs.Maybe.{◌>>◌, check}
 use Rattle.thunk_codec.specs.Thunk.{Parts}
 
 -- the greatest length of a job's encoding, in bytes
