@@ -10,8 +10,3 @@ mod scanning;
 
 pub use fault::ScanFault;
 pub use scanning::scan;
-
-#[cfg(test)]
-mod preprocessing_tests;
-#[cfg(test)]
-mod tests;

@@ -5,6 +5,3 @@ mod card;
 mod cards;
 
 pub use cards::Cards;
-
-#[cfg(test)]
-mod tests;

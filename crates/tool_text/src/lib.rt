@@ -34,12 +34,3 @@ pub use fib_tool::fib;
 pub use groups::Group;
 pub use include_lines::{IncludeLine, include_line};
 pub use including::candidates;
-
-#[cfg(test)]
-mod cpp_tests;
-#[cfg(test)]
-mod directive_tests;
-#[cfg(test)]
-mod include_tests;
-#[cfg(test)]
-mod tests;
