@@ -16,3 +16,4 @@ pub mod Sound
 pub mod Strips
 pub mod Fitting
 pub mod Wholes
+pub mod PublicLaws
