@@ -4,7 +4,7 @@ use Rattle.std.specs.Prelude.{option_and_then}
 use Rattle.std.specs.Ordering.{eq_by_cmp}
 use Rattle.object_name.specs.Name.{ObjectName, name_of, name_cmp}
 use Rattle.blob_store.specs.Store.{Contents, put, if_named, held}
-use Rattle.blob_store.proofs.Names.{eq_by_cmp-name, eq_by_cmp-other, name_cmp-same}
+use Rattle.object_name.proofs.PublicLaws.{eq_by_cmp-name, eq_by_cmp-other, name_cmp-same}
 
 -- bytes of a name count under it
 pub if_named-own : (name : ObjectName) (bytes : List ℕ) → name_of bytes ≡ name → if_named name bytes ≡ Some bytes

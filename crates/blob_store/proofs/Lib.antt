@@ -1,8 +1,6 @@
-pub mod Names
 pub mod HeldAfterPut
 pub mod HeldAfterStoring
 pub mod WrittenTwice
-pub mod TriesSoFar
 pub mod KeyIndex
 pub mod PairsByName
 pub mod StoreAfterPut

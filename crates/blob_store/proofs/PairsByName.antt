@@ -5,7 +5,7 @@ use Rattle.std.specs.FinMap as map
 use Rattle.std.specs.FinMap.{len-empty}
 use Rattle.std.specs.Ordering.{eq_by_cmp}
 use Rattle.object_name.specs.Name.{ObjectName, name_cmp}
-use Rattle.object_name.proofs.NameOrder.{name_cmp_total, name_cmp-IsAntisymmetric}
+use Rattle.object_name.proofs.PublicLaws.{name_cmp_total, name_cmp-IsAntisymmetric}
 use Rattle.blob_store.specs.Memory.{ByName}
 use Rattle.blob_store.proofs.KeyIndex.{get-place, get-no_place, insert-place, insert-push, length-place, length-push}
 

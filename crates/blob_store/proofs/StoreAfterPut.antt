@@ -3,7 +3,7 @@ use Rattle.std.proofs.Common.{◌≡◌, ℕ, List, ap, ◌∙◌}
 use Rattle.std.specs.FinMap as map
 use Rattle.std.specs.FinMap.{get-insert}
 use Rattle.object_name.specs.Name.{ObjectName}
-use Rattle.object_name.proofs.NameOrder.{name_cmp_total}
+use Rattle.object_name.proofs.PublicLaws.{name_cmp_total}
 use Rattle.blob_store.specs.Memory.{ByName, Memory, store_of, called, with_object, with_note}
 use Rattle.blob_store.specs.Store.{Store, Contents, put, after_write}
 use Rattle.blob_store.specs.Store.Write.{Object, Note}

@@ -7,21 +7,8 @@ ghost use Rattle.blob_store.specs.Store.{after_write};
 ghost use Rattle.blob_store.specs.Store.Write.{Object, Note};
 
 use crate::keeper::Keeper;
-use object_name::{Bytes, Name, Trouble};
+use object_name::{Bytes, Name, Trouble, try_again};
 use std::alloc::Global;
-
-/// Answers what the first of `retries` + 1 calls answers that doesn't fail.
-macro_rules! try_again {
-    ($retries:expr, $call:expr) => {{
-        'tries: for _ in 0..$retries {
-            match $call {
-                Err(Trouble::Failed) => {}
-                answer => return answer,
-            }
-        }
-        $call
-    }};
-}
 
 /// The bytes under a name among the objects, by the first of `retries` + 1 calls that doesn't fail.
 pub fn get_again<K: Keeper>(
@@ -34,7 +21,7 @@ pub fn get_again<K: Keeper>(
     ensures same { K.tells → K.store keeper.new ≡ K.store keeper.old }
     ensures cause { HasCauseBy retries (K.faults keeper.old) (K.faults keeper.new) result }
 {
-    try_again!(retries, keeper.get(alloc, name))
+    try_again!(tried in retries, keeper.get(alloc, name))
 }
 
 /// Puts bytes under a name among the objects, by the first of `retries` + 1 calls that doesn't fail.
@@ -48,7 +35,7 @@ pub fn put_again<K: Keeper>(
     ensures kept { K.tells → OnErr result (MayWrite (K.store keeper.old) (Object name.now bytes.now) (K.store keeper.new)) }
     ensures cause { HasCauseBy retries (K.faults keeper.old) (K.faults keeper.new) result }
 {
-    try_again!(retries, keeper.put(name, bytes))
+    try_again!(tried in retries, keeper.put(name, bytes))
 }
 
 /// The bytes under a name among the notes, by the first of `retries` + 1 calls that doesn't fail.
@@ -62,7 +49,7 @@ pub fn get_note_again<K: Keeper>(
     ensures same { K.tells → K.store keeper.new ≡ K.store keeper.old }
     ensures cause { HasCauseBy retries (K.faults keeper.old) (K.faults keeper.new) result }
 {
-    try_again!(retries, keeper.get_note(alloc, name))
+    try_again!(tried in retries, keeper.get_note(alloc, name))
 }
 
 /// Puts bytes under a name among the notes, by the first of `retries` + 1 calls that doesn't fail.
@@ -76,5 +63,5 @@ pub fn put_note_again<K: Keeper>(
     ensures kept { K.tells → OnErr result (MayWrite (K.store keeper.old) (Note name.now bytes.now) (K.store keeper.new)) }
     ensures cause { HasCauseBy retries (K.faults keeper.old) (K.faults keeper.new) result }
 {
-    try_again!(retries, keeper.put_note(name, bytes))
+    try_again!(tried in retries, keeper.put_note(name, bytes))
 }

@@ -12,7 +12,7 @@ use Rattle.thunk_codec.specs.Resolved.{refs_of}
 use Rattle.thunk_codec.specs.Job.{ref_name, job_size, size_by_lengths, resolved_size}
 use Rattle.thunk_codec.proofs.Lengths.{job_size_by_lengths}
 use Rattle.blob_store.specs.Store.{Contents, if_named, held}
-use Rattle.blob_store.proofs.Names.{eq_by_cmp-name}
+use Rattle.object_name.proofs.PublicLaws.{eq_by_cmp-name}
 use Rattle.need_eval.specs.declared.fault.Refusal.TheVariants.{Missing}
 use Rattle.need_eval.specs.Eval.{State, Stop, Refused, Ended, Got, Stopped, Eval, go_on, ◌>>=◌, give, need, each}
 use Rattle.need_eval.specs.Evaluation.{object, input_object, job_of}

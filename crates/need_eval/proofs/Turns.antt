@@ -23,7 +23,7 @@ use Rattle.need_eval.specs.Evaluation.{object, job_of, finished, ask, outputs_of
 use Rattle.need_eval.specs.Machine.{resume}
 use Rattle.need_eval.specs.WritePrefix.{state_after}
 use Rattle.need_eval.specs.Pieces.{StopsReading}
-use Rattle.blob_store.proofs.Names.{name_cmp-same}
+use Rattle.object_name.proofs.PublicLaws.{name_cmp-same}
 use Rattle.need_eval.proofs.Fuel.{value_of-is}
 use Rattle.need_eval.proofs.ReadOnly.{StopsReading-go_on}
 

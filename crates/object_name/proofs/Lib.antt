@@ -2,6 +2,9 @@ pub mod SpellingLemmas
 pub mod NameLemmas
 pub mod NumberLemmas
 pub mod NameOrder
+pub mod NameTies
 pub mod StreamLemmas
 pub mod CallLemmas
 pub mod SpellingBytes
+pub mod TriesSoFar
+pub mod PublicLaws

@@ -1,7 +1,9 @@
 //! Laws of names and numbers that no single call shows.
 
-ghost use Rattle.std.specs.Prelude.{◌≡◌, ◌<◌, ◌^◌, ℕ, List, Some, decimal};
-ghost use Rattle.object_name.specs.Name.{ObjectName, IsName, spelling, named_by};
+ghost use Rattle.std.specs.Prelude.{◌≡◌, ◌↔◌, ◌<◌, ◌^◌, ℕ, List, Some, true, decimal};
+ghost use Rattle.std.specs.Cmp.{IsTotalOrder};
+ghost use Rattle.std.specs.Ordering.{eq_by_cmp};
+ghost use Rattle.object_name.specs.Name.{ObjectName, IsName, spelling, named_by, name_cmp};
 ghost use Rattle.object_name.specs.Number.{number_of};
 
 /// Two names with one spelling are one name.
@@ -19,4 +21,10 @@ pub fn spellings_read_back()
 pub fn numbers_read_back()
     ensures written { (n : ℕ) → n < 2 ^ 64 → number_of (decimal n) ≡ Some n }
     ensures numbered { (text : List ℕ) (n : ℕ) → number_of text ≡ Some n → (n < 2 ^ 64) × (text ≡ decimal n) }
+{}
+
+/// The order of names is total, and two names tie in it exactly where they are one.
+pub fn names_are_ordered()
+    ensures total { IsTotalOrder name_cmp }
+    ensures ties { (m : ObjectName) (n : ObjectName) → (eq_by_cmp name_cmp m n ≡ true) ↔ (m ≡ n) }
 {}

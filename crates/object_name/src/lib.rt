@@ -17,6 +17,7 @@ mod spelling;
 #[cfg(test)]
 mod tests;
 mod trouble;
+mod try_again;
 mod try_copy;
 mod write_sink;
 

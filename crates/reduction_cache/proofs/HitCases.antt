@@ -7,7 +7,7 @@ use Rattle.std.proofs.lemmas.Bool.{eq-eqb, ne_eqb}
 use Rattle.object_name.specs.Name.{ObjectName, name_cmp}
 use Rattle.text_lines.specs.Maybe.{◌>>=◌, ◌>>◌}
 use Rattle.blob_store.specs.Store.{Store}
-use Rattle.blob_store.proofs.Names.{eq_by_cmp-name, eq_by_cmp-other}
+use Rattle.object_name.proofs.PublicLaws.{eq_by_cmp-name, eq_by_cmp-other}
 use Rattle.reduction_cache.specs.Hit.{hit_of, is_held}
 use Rattle.reduction_cache.specs.Note.{NoteOf}
 use Rattle.reduction_cache.specs.Reading.{note_of}

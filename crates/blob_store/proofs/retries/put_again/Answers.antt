@@ -5,13 +5,13 @@ use Rattle.blob_store.proofs.retries.put_again.Goals as goal
 
 pub returns-in_default-clause-kept : goal.returns-in_default-clause-kept
 returns-in_default-clause-kept g c = λ tells.
-    MayWrite-again (g.K.Keeper.store c.args.keeper.now) (g.K.Keeper.store c.tries.keeper) (g.K.Keeper.store c.put.new.self)
-    (Object c.args.name.now c.args.bytes.now) (c.tries.invariant.may tells) (c.in_default.ensures.kept tells)
+    MayWrite-again (g.K.Keeper.store c.args.keeper.now) (g.K.Keeper.store c.loop-of-try_again.keeper) (g.K.Keeper.store c.put.new.self)
+    (Object c.args.name.now c.args.bytes.now) (c.loop-of-try_again.invariant.may tells) (c.in_default.ensures.kept tells)
 
-pub tries-preserved : goal.tries-preserved
-tries-preserved g c =
+pub loop-of-try_again-preserved : goal.loop-of-try_again-preserved
+loop-of-try_again-preserved g c =
     record {
-      may = λ tells. MayWrite-again (g.K.Keeper.store c.args.keeper.now) (g.K.Keeper.store c.tries.keeper) (g.K.Keeper.store c.put.new.self)
-          (Object c.args.name.now c.args.bytes.now) (c.tries.invariant.may tells) (c.in-Err-Failed.ensures.kept tells);
+      may = λ tells. MayWrite-again (g.K.Keeper.store c.args.keeper.now) (g.K.Keeper.store c.loop-of-try_again.keeper) (g.K.Keeper.store c.put.new.self)
+          (Object c.args.name.now c.args.bytes.now) (c.loop-of-try_again.invariant.may tells) (c.in-Err-Failed-try_again.ensures.kept tells);
       tried = search rules;
     }
