@@ -12,4 +12,5 @@ pub mod Encodes
 pub mod Resolves
 pub mod Makes
 pub mod Folders
+pub mod InputsFound
 pub mod Placeholders

@@ -75,7 +75,7 @@ fn rise<T>(items: &[(Bytes, T)]) -> bool
 }
 
 /// Whether each path is before the next.
-fn paths_rise(inputs: &[(Path, Ref)]) -> bool
+pub fn paths_rise<T>(inputs: &[(Path, T)]) -> bool
     ensures { result ≡ is_strictly_increasing (map (λ input. input.0) inputs.now) }
 {
     let mut rest = inputs;
