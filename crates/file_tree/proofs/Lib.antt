@@ -1,5 +1,4 @@
-pub mod Changes
-pub mod Retries
-pub mod MapLemmas
-pub mod Repeats
-pub mod Gathering
+pub mod ChangedTwice
+pub mod TreeAsMap
+pub mod FirstRepeated
+pub mod GatheredRefs

@@ -1,4 +1,4 @@
 pub mod Files
 pub mod Memory
 pub mod Wanted
-pub mod Wanting
+pub mod WantAnswers

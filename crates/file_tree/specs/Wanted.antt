@@ -24,7 +24,7 @@ abbrev pub item_text : Item → List ℕ
 item_text (File path) = path
 item_text (Bare ref) = ref_text ref
 
--- the first of some texts that stands before it, among them or the earlier ones
+-- the first of some texts that repeats one before it, among them or the earlier ones
 unfoldable pub first_repeated : List (List ℕ) → List (List ℕ) → Option (List ℕ)
 first_repeated earlier [] = None
 first_repeated earlier (text ∷ texts) = if list_any (bytes_eq text) earlier then Some text else first_repeated (earlier ++ text ∷ []) texts
@@ -49,15 +49,15 @@ abbrev pub ref_of_item : Files → Item → Result Ref FileRefusal
 ref_of_item files (File path) = ref_of_read path (file_read (files path))
 ref_of_item files (Bare ref) = Ok ref
 
--- one reference more in front
-abbrev pub in_front : Ref → Result (List Ref) FileRefusal → Result (List Ref) FileRefusal
-in_front ref (Ok refs) = Ok (ref ∷ refs)
-in_front ref (Err refusal) = Err refusal
+-- one reference before others
+abbrev pub ref_before : Ref → Result (List Ref) FileRefusal → Result (List Ref) FileRefusal
+ref_before ref (Ok refs) = Ok (ref ∷ refs)
+ref_before ref (Err refusal) = Err refusal
 
--- the references of an item and of those behind it, by that of the item
+-- the references of an item and of those after it, by that of the item
 abbrev pub item_then : Result Ref FileRefusal → Result (List Ref) FileRefusal → Result (List Ref) FileRefusal
-item_then (Ok ref) behind = in_front ref behind
-item_then (Err refusal) behind = Err refusal
+item_then (Ok ref) rest = ref_before ref rest
+item_then (Err refusal) rest = Err refusal
 
 -- the references of some items, or the first refusal
 unfoldable pub refs_of : Files → List Item → Result (List Ref) FileRefusal
@@ -69,7 +69,7 @@ abbrev pub refs_once : Files → List Item → Option (List ℕ) → Result (Lis
 refs_once files items (Some text) = Err (Twice text)
 refs_once files items None = refs_of files items
 
--- the references of wanted items, or the refusal: of the first item that stands twice, before any file is looked at, and
+-- the references of wanted items, or the refusal: of the first item that is repeated, before any file is looked at, and
 -- else of the first item that has one
 abbrev pub wanted_of : Files → List Item → Result (List Ref) FileRefusal
 wanted_of files items = refs_once files items (repeated_item items)

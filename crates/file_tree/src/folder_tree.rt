@@ -1,12 +1,11 @@
 //! A tree in a folder.
 
-ghost use Rattle.std.specs.Prelude.{◌≡◌, Ok, IfOk};
-ghost use Rattle.object_name.specs.Causes.{HasCause};
-ghost use Rattle.file_tree.specs.Files.{no_files};
+ghost use Rattle.std.specs.Prelude.{◌≡◌, IfOk};
+ghost use Rattle.file_tree.specs.Files.{IsShort, no_files};
 
-use crate::files::{read_file, remove_file, write_file};
 use crate::tree::{FileRead, Tree};
-use object_name::Trouble;
+use folder_files::{FaultCount, path_in, read_file, remove_file, replace_file};
+use object_name::{MAX_SIZE, Trouble};
 use std::alloc::{AllocError, Global};
 use std::io;
 use std::io::ErrorKind;
@@ -20,7 +19,7 @@ pub struct FolderTree<R> {
     alloc: Global,
     files: R,
     root: String,
-    faults: u64,
+    faults: FaultCount,
 }
 
 impl<R: Files> FolderTree<R> {
@@ -34,7 +33,7 @@ impl<R: Files> FolderTree<R> {
             alloc,
             files,
             root: String::from_str(alloc, root)?,
-            faults: 0,
+            faults: FaultCount::new(),
         })
     }
 
@@ -42,22 +41,7 @@ impl<R: Files> FolderTree<R> {
     pub fn faults(&self) -> u64
         ensures { result ≡ ⟦<FolderTree<R> as Tree>⟧.faults self.now }
     {
-        self.faults
-    }
-
-    /// What a call answers, by what came of its work on files: a fault is counted, and memory that was refused isn't one.
-    fn answer<T: Drop>(&mut self, done: io::Result<T>) -> Result<T, Trouble>
-        ensures value { IfOk result (λ value. done ≡ Ok value) }
-        ensures cause { HasCause self.old.faults self.new.faults result }
-    {
-        match done {
-            Ok(value) => Ok(value),
-            Err(error) if error.kind() == ErrorKind::OutOfMemory => Err(Trouble::Memory),
-            Err(_) => {
-                self.faults = self.faults.saturating_add(1);
-                Err(Trouble::Failed)
-            }
-        }
+        self.faults.count()
     }
 }
 
@@ -69,17 +53,60 @@ impl<R: Files> Tree for FolderTree<R> {
     ghost faults = { λ t. t.faults };
 
     fn read(&mut self, alloc: Global, path: &Path) -> Result<FileRead, Trouble> {
-        let done = read_file(alloc, &self.files, self.root.as_str(), path);
-        self.answer(done)
+        let done = read_path(alloc, &self.files, self.root.as_str(), path);
+        self.faults.answer(done)
     }
 
     fn write(&mut self, path: &Path, bytes: &[u8]) -> Result<(), Trouble> {
-        let done = write_file(self.alloc, &self.files, self.root.as_str(), path, bytes);
-        self.answer(done)
+        let done = write_path(self.alloc, &self.files, self.root.as_str(), path, bytes);
+        self.faults.answer(done)
     }
 
     fn remove(&mut self, path: &Path) -> Result<(), Trouble> {
-        let done = remove_file(self.alloc, &self.files, self.root.as_str(), path);
-        self.answer(done)
+        let done = remove_path(self.alloc, &self.files, self.root.as_str(), path);
+        self.faults.answer(done)
     }
+}
+
+/// What stands at a path.
+fn read_path<R: Files>(alloc: Global, files: &R, root: &str, path: &Path) -> io::Result<FileRead>
+    ensures { IfOk result IsShort }
+{
+    let file_path = path_in(alloc, root, path.text())?;
+    match read_file(alloc, files, file_path.as_str(), MAX_SIZE as usize) {
+        Ok(Some(bytes)) => Ok(FileRead::Bytes(bytes)),
+        Ok(None) => Ok(FileRead::TooLong),
+        Err(error) if is_absent(&error) => Ok(FileRead::Absent),
+        Err(error) => Err(error),
+    }
+}
+
+/// Writes a file, and makes the folders that it stands in.
+fn write_path<R: Files>(
+    alloc: Global,
+    files: &R,
+    root: &str,
+    path: &Path,
+    bytes: &[u8],
+) -> io::Result<()> {
+    let file_path = path_in(alloc, root, path.text())?;
+    let folder = path_in(alloc, root, path.folder(alloc)?.text())?;
+    replace_file(alloc, files, folder.as_str(), file_path.as_str(), bytes)
+}
+
+/// Removes the file at a path, if there is one.
+fn remove_path<R: Files>(alloc: Global, files: &R, root: &str, path: &Path) -> io::Result<()> {
+    let file_path = path_in(alloc, root, path.text())?;
+    match remove_file(files, file_path.as_str()) {
+        Err(error) if is_absent(&error) => Ok(()),
+        done => done,
+    }
+}
+
+/// Whether an error says that there is no file: nothing stands at the path, it is a folder, or it passes through a file.
+fn is_absent(error: &io::Error) -> bool {
+    matches!(
+        error.kind(),
+        ErrorKind::NotFound | ErrorKind::NotADirectory | ErrorKind::IsADirectory
+    )
 }

@@ -4,9 +4,10 @@ ghost use Rattle.std.specs.Prelude.{◌≡◌, ◌↔◌, length, IsTrue, IsErrO
 ghost use Rattle.std.specs.FinMap as map;
 ghost use Rattle.std.specs.Option.{option_copied};
 ghost use Rattle.object_name.specs.Causes.{HasCause};
-ghost use Rattle.object_name.specs.Calls.{fails_next};
+ghost use Rattle.object_name.specs.Calls.{fails_next, not_called};
+ghost use Rattle.object_name.specs.Maps.{map_of};
 ghost use Rattle.file_tree.specs.Files.{IsShort, file_read};
-ghost use Rattle.file_tree.specs.Memory.{map_of, files_of, not_called, called, with_file, with_none};
+ghost use Rattle.file_tree.specs.Memory.{files_of, called, with_file, with_none};
 
 use crate::tree::{FileRead, Tree};
 use object_name::{Bytes, Calls, MAX_SIZE, Many, Trouble, TryCopy};

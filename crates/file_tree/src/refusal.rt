@@ -2,7 +2,7 @@
 
 ghost use Rattle.std.specs.Prelude.{◌≡◌};
 ghost use Rattle.file_tree.specs.declared.refusal.WantFault.TheVariants.{Memory};
-ghost use Rattle.file_tree.specs.Wanting.{fault_of};
+ghost use Rattle.file_tree.specs.WantAnswers.{fault_of};
 
 use object_name::{Bytes, Trouble};
 use std::alloc::{AllocError, AllocFailed};
@@ -34,7 +34,7 @@ pub enum WantFault {
     Refused(FileRefusal),
     /// The tree failed more often than was tried again.
     Failed,
-    /// Memory was refused.
+    /// Out of memory.
     Memory,
 }
 

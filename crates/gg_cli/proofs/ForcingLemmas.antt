@@ -10,7 +10,7 @@ use Rattle.thunk_codec.specs.declared.reference.Ref.{Ref}
 use Rattle.thunk_codec.specs.declared.job.Job.{Job}
 use Rattle.blob_store.specs.Store.{Store, Write, written}
 use Rattle.file_tree.specs.Files.{Files, Change, changed}
-use Rattle.file_tree.specs.Wanting.{Answers, WantCause}
+use Rattle.file_tree.specs.WantAnswers.{Answers, WantCause}
 use Rattle.file_tree.specs.declared.item.Item.{Item}
 use Rattle.file_tree.specs.declared.refusal.FileRefusal.{FileRefusal}
 use Rattle.file_tree.specs.declared.refusal.WantFault.{WantFault}

@@ -10,11 +10,10 @@ use Rattle.object_name.specs.declared.kind.Kind.{Kind}
 use Rattle.object_name.specs.declared.kind.Kind.TheVariants.{Value, Thunk}
 use Rattle.object_name.specs.Kind.{letter_of_kind}
 use Rattle.object_name.specs.Name.{ObjectName, IsName, spelling, named_by}
-use Rattle.object_name.proofs.NameLemmas.{HasParts-spelling, length-spelling, named_by-spelling, spelling-named_by}
+use Rattle.object_name.proofs.PublicLaws.{HasParts-spelling, length-spelling, named_by-spelling, spelling-named_by}
 use Rattle.text_lines.specs.Maybe.{◌>>=◌, bind_some}
 use Rattle.text_lines.specs.Cuts.{strip_prefix}
 use Rattle.text_lines.proofs.CutLemmas.{strip_prefix_takes}
-use Rattle.thunk_codec.proofs.Loops.{with_prefix}
 use Rattle.reduction_cache.specs.Note.{name_line, note_end}
 use Rattle.reduction_cache.specs.Reading.{name_at, names_at}
 
@@ -121,29 +120,33 @@ name_short bytes short =
 
 -- ---- names one after another, as a loop reads them
 
-with_prefix-more : (prefix : List ObjectName) (name : ObjectName) (read : Option (List ObjectName × List ℕ)) → with_prefix prefix (read >>= λ others. Some (name ∷ others.0, others.1)) ≡ with_prefix (prefix ++ name ∷ []) read
-with_prefix-more prefix name (Some others) = ap (λ (v : List ObjectName). Some (v, others.1)) (sym (append_assoc prefix (name ∷ []) others.0))
-with_prefix-more prefix name None = refl
+-- what is read, with other names before it
+abbrev pub names_before : List ObjectName → Option (List ObjectName × List ℕ) → Option (List ObjectName × List ℕ)
+names_before prefix read = read >>= λ x. Some (prefix ++ x.0, x.1)
+
+names_before-more : (prefix : List ObjectName) (name : ObjectName) (read : Option (List ObjectName × List ℕ)) → names_before prefix (read >>= λ others. Some (name ∷ others.0, others.1)) ≡ names_before (prefix ++ name ∷ []) read
+names_before-more prefix name (Some others) = ap (λ (v : List ObjectName). Some (v, others.1)) (sym (append_assoc prefix (name ∷ []) others.0))
+names_before-more prefix name None = refl
 
 -- some names are read, and the rest of the bytes gives what is left
 pub record Going (bytes : List ℕ) (prefix : List ObjectName) (rest : List ℕ) (count : ℕ) : Type 0 where
-  pub goes_on : with_prefix prefix (names_at (64 - count) rest) ≡ names_at 64 bytes
+  pub goes_on : names_before prefix (names_at (64 - count) rest) ≡ names_at 64 bytes
 
-with_prefix-nil : (read : Option (List ObjectName × List ℕ)) → with_prefix [] read ≡ read
-with_prefix-nil (Some x) = refl
-with_prefix-nil None = refl
+names_before-nil : (read : Option (List ObjectName × List ℕ)) → names_before [] read ≡ read
+names_before-nil (Some x) = refl
+names_before-nil None = refl
 
 pub going_start : (bytes : List ℕ) (prefix : List ObjectName) → prefix ≡ [] → Going bytes prefix bytes 0
-going_start bytes prefix is = record { goes_on = ap (λ (v : List ObjectName). with_prefix v (names_at 64 bytes)) is ∙ with_prefix-nil (names_at 64 bytes) }
+going_start bytes prefix is = record { goes_on = ap (λ (v : List ObjectName). names_before v (names_at 64 bytes)) is ∙ names_before-nil (names_at 64 bytes) }
 
 names_end : (most : ℕ) (rest : List ℕ) → ends rest ≡ true → names_at most rest ≡ Some ([], rest)
 unfolding names_at
 names_end zero rest done = refl
 names_end (suc most) rest done = rw done refl
 
-ends_by : (most : ℕ) (bytes : List ℕ) (prefix : List ObjectName) (rest : List ℕ) → with_prefix prefix (names_at most rest) ≡ names_at 64 bytes → names_at most rest ≡ Some ([], rest) → Some (prefix, rest) ≡ names_at 64 bytes
+ends_by : (most : ℕ) (bytes : List ℕ) (prefix : List ObjectName) (rest : List ℕ) → names_before prefix (names_at most rest) ≡ names_at 64 bytes → names_at most rest ≡ Some ([], rest) → Some (prefix, rest) ≡ names_at 64 bytes
 ends_by most bytes prefix rest goes_on done =
-    sym (ap (with_prefix prefix) done ∙ ap (λ (v : List ObjectName). Some (v, rest)) (append-nil prefix)) ∙ goes_on
+    sym (ap (names_before prefix) done ∙ ap (λ (v : List ObjectName). Some (v, rest)) (append-nil prefix)) ∙ goes_on
 
 -- the last line ends it
 pub going_ends : (bytes : List ℕ) (prefix : List ObjectName) (rest : List ℕ) (count : ℕ) → Going bytes prefix rest count → ends rest ≡ true → Some (prefix, rest) ≡ names_at 64 bytes
@@ -165,8 +168,8 @@ one_more most next rest is more = ap (λ (n : ℕ). names_at n rest) is ∙ rw m
 pub going_fails : (bytes : List ℕ) (prefix : List ObjectName) (rest : List ℕ) (count : ℕ) → Going bytes prefix rest count → count < 64 → ends rest ≡ false → None ≡ name_at rest → None ≡ names_at 64 bytes
 going_fails bytes prefix rest count going lt more none =
     let left : 64 - count ≡ suc (63 - count) = omega (arith, lt) in
-    ap (λ (o : Option (ObjectName × List ℕ)). with_prefix prefix (o >>= λ first. names_at (63 - count) first.1 >>= λ others. Some (first.0 ∷ others.0, others.1))) none
-    ∙ sym (ap (with_prefix prefix) (one_more (64 - count) (63 - count) rest left more)) ∙ going.goes_on
+    ap (λ (o : Option (ObjectName × List ℕ)). names_before prefix (o >>= λ first. names_at (63 - count) first.1 >>= λ others. Some (first.0 ∷ others.0, others.1))) none
+    ∙ sym (ap (names_before prefix) (one_more (64 - count) (63 - count) rest left more)) ∙ going.goes_on
 
 -- a name more
 pub going_more : (bytes : List ℕ) (prefix new : List ObjectName) (rest after : List ℕ) (name : ObjectName) (count : ℕ) → Going bytes prefix rest count → count < 64 → ends rest ≡ false
@@ -175,9 +178,9 @@ going_more bytes prefix new rest after name count going lt more read pushed =
     let left : 64 - count ≡ suc (64 - (count + 1)) = omega (arith, lt) in
     record {
       goes_on =
-          ap (λ (v : List ObjectName). with_prefix v (names_at (64 - (count + 1)) after)) pushed
-          ∙ sym (with_prefix-more prefix name (names_at (64 - (count + 1)) after))
-          ∙ ap (λ (o : Option (ObjectName × List ℕ)). with_prefix prefix (o >>= λ first. names_at (64 - (count + 1)) first.1 >>= λ others. Some (first.0 ∷ others.0, others.1))) read
-          ∙ sym (ap (with_prefix prefix) (one_more (64 - count) (64 - (count + 1)) rest left more))
+          ap (λ (v : List ObjectName). names_before v (names_at (64 - (count + 1)) after)) pushed
+          ∙ sym (names_before-more prefix name (names_at (64 - (count + 1)) after))
+          ∙ ap (λ (o : Option (ObjectName × List ℕ)). names_before prefix (o >>= λ first. names_at (64 - (count + 1)) first.1 >>= λ others. Some (first.0 ∷ others.0, others.1))) read
+          ∙ sym (ap (names_before prefix) (one_more (64 - count) (64 - (count + 1)) rest left more))
           ∙ going.goes_on;
     }

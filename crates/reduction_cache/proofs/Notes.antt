@@ -1,5 +1,5 @@
 -- The two forms of a note's text are one.
-use Rattle.std.proofs.Common.{◌≡◌, ℕ, true, leb, List, [], ◌++◌, length, append_assoc, Option, Some, refl, sym, ap, subst, ◌∙◌}
+use Rattle.std.proofs.Common.{◌≡◌, ℕ, true, leb, eqb, List, [], ◌++◌, length, append_assoc, Option, Some, refl, sym, ap, subst, ◌∙◌}
 use Rattle.std.specs.Prelude.{bytes_eq}
 use Rattle.std.specs.List.{flat_map}
 use Rattle.std.proofs.lemmas.Bool.{leb-true, le-leb}
@@ -7,16 +7,16 @@ use Rattle.std.proofs.lemmas.List.{append-nil}
 use Rattle.std.proofs.lemmas.Option.{same_Some}
 use Rattle.std.proofs.lemmas.Slice.Eq.{bytes_eq-Decides}
 use Rattle.object_name.specs.declared.kind.Kind.{Kind}
+use Rattle.object_name.specs.Kind.{letter_of_kind}
 use Rattle.object_name.specs.declared.kind.Kind.TheVariants.{Value, Thunk}
 use Rattle.text_lines.specs.Maybe.{◌>>=◌, bind_some, test_some}
 use Rattle.text_lines.specs.Cuts.{strip_prefix}
-use Rattle.thunk_codec.specs.Reference.{is_thunk_kind}
 use Rattle.text_lines.proofs.CutLemmas.{strip_prefix_takes}
 use Rattle.reduction_cache.specs.Note.{NoteOf, IsNote, Note, note_text, name_line, note_head, note_end}
 use Rattle.reduction_cache.specs.Reading.{name_at, names_at, note_of}
 use Rattle.reduction_cache.proofs.Names.{name_takes, name_again, names_take, names_again}
 
-thunk_kind : (kind : Kind) → is_thunk_kind kind ≡ true → kind ≡ Thunk
+thunk_kind : (kind : Kind) → eqb (letter_of_kind kind) 84 ≡ true → kind ≡ Thunk
 thunk_kind Value e = absurd cc
 thunk_kind Thunk e = refl
 
@@ -34,7 +34,7 @@ unfolding note_of note_text
 note_of-text bytes note e =
     let a = bind_some (strip_prefix note_head bytes) _ note e in
     let b = bind_some (name_at a.0) _ note a.2 in
-    let c = test_some (is_thunk_kind b.0.0.kind) _ note b.2 in
+    let c = test_some (eqb (letter_of_kind b.0.0.kind) 84) _ note b.2 in
     let d = bind_some (names_at 64 b.0.1) _ note c.1 in
     let f = test_some (leb 1 (length d.0.0)) _ note d.2 in
     let g = bind_some (strip_prefix note_end d.0.1) _ note f.1 in
@@ -64,7 +64,7 @@ unfolding note_of
 text-note_of bytes note h =
     let lines : List ℕ = flat_map name_line note.outputs ++ (note_end ++ []) in
     let text : bytes ≡ note_head ++ (name_line note.resolved ++ lines) = h.text ∙ sym (append-nil (note_text note)) ∙ text_before note [] in
-    let kind : is_thunk_kind note.resolved.kind ≡ true = ap is_thunk_kind h.rules.kind in
+    let kind : eqb (letter_of_kind note.resolved.kind) 84 ≡ true = ap (λ (kind : Kind). eqb (letter_of_kind kind) 84) h.rules.kind in
     let some : leb 1 (length note.outputs) ≡ true = le-leb _ _ h.rules.some_output in
     ap note_of text
     ∙ rw (name_again note.resolved lines h.rules.resolved, kind, names_again 64 note.outputs (note_end ++ []) h.rules.outputs h.rules.few_outputs refl, some) refl
@@ -77,26 +77,26 @@ same_note bytes m n g h = same_Some m n (sym (text-note_of bytes m g) ∙ text-n
 pub same_text : (a b : List ℕ) (note : NoteOf) → Note a note → Note b note → a ≡ b
 same_text a b note g h = g.text ∙ sym h.text
 
--- what stands behind a note at the beginning
-behind_note : List ℕ → Option (List ℕ)
-behind_note bytes = do
+-- what comes after a note
+after_note : List ℕ → Option (List ℕ)
+after_note bytes = do
   first ← strip_prefix note_head bytes
   resolved ← name_at first
   outputs ← names_at 64 resolved.1
   strip_prefix note_end outputs.1
 
-behind_note-again : (note : NoteOf) (rest : List ℕ) → IsNote note → behind_note (note_text note ++ rest) ≡ Some rest
-unfolding behind_note
-behind_note-again note rest h =
+after_note-again : (note : NoteOf) (rest : List ℕ) → IsNote note → after_note (note_text note ++ rest) ≡ Some rest
+unfolding after_note
+after_note-again note rest h =
     let lines : List ℕ = flat_map name_line note.outputs ++ (note_end ++ rest) in
-    ap behind_note (text_before note rest)
+    ap after_note (text_before note rest)
     ∙ rw (name_again note.resolved lines h.resolved, names_again 64 note.outputs (note_end ++ rest) h.outputs h.few_outputs refl) refl
 
 -- no proper prefix of a text is a text
 pub no_rest : (bytes rest : List ℕ) (m n : NoteOf) → Note bytes m → Note (bytes ++ rest) n → rest ≡ []
 no_rest bytes rest m n g h =
-    let first : behind_note (bytes ++ rest) ≡ Some rest = ap (λ (v : List ℕ). behind_note (v ++ rest)) g.text ∙ behind_note-again m rest g.rules in
-    let second : behind_note (bytes ++ rest) ≡ Some [] = ap behind_note (h.text ∙ sym (append-nil (note_text n))) ∙ behind_note-again n [] h.rules in
+    let first : after_note (bytes ++ rest) ≡ Some rest = ap (λ (v : List ℕ). after_note (v ++ rest)) g.text ∙ after_note-again m rest g.rules in
+    let second : after_note (bytes ++ rest) ≡ Some [] = ap after_note (h.text ∙ sym (append-nil (note_text n))) ∙ after_note-again n [] h.rules in
     same_Some rest [] (sym first ∙ second)
 
 -- ---- what is written

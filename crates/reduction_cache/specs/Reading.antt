@@ -1,13 +1,13 @@
 -- Reading a note from its beginning, as a total function.
-use Rattle.std.specs.Prelude.{ℕ, zero, suc, List, [], ◌∷◌, take, drop, length, nat_eq, nat_le, Option, Some, bytes_eq, if◌then◌else◌}
+use Rattle.std.specs.Prelude.{ℕ, zero, suc, List, [], ◌∷◌, take, drop, length, nat_eq, nat_le, ◌==◌, Option, Some, bytes_eq, if◌then◌else◌}
 use Rattle.std.specs.List.{starts_with}
+use Rattle.object_name.specs.Kind.{letter_of_kind}
 use Rattle.object_name.specs.Name.{ObjectName, named_by}
 use Rattle.text_lines.specs.Maybe.{◌>>=◌, ◌>>◌, check}
-use Rattle.thunk_codec.specs.Reference.{is_thunk_kind}
 use Rattle.text_lines.specs.Cuts.{strip_prefix}
 use Rattle.reduction_cache.specs.Note.{NoteOf, note_head, note_end}
 
--- a name and the line feed behind it
+-- a name and the line feed after it
 unfoldable pub name_at : List ℕ → Option (ObjectName × List ℕ)
 name_at bytes = do
   name ← named_by (take 52 bytes)
@@ -29,7 +29,7 @@ unfoldable pub note_of : List ℕ → Option NoteOf
 note_of bytes = do
   first ← strip_prefix note_head bytes
   resolved ← name_at first
-  check (is_thunk_kind resolved.0.kind)
+  check (letter_of_kind resolved.0.kind == 84)
   outputs ← names_at 64 resolved.1
   check (nat_le 1 (length outputs.0))
   rest ← strip_prefix note_end outputs.1

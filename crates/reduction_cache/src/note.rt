@@ -55,7 +55,7 @@ pub fn encode_note(alloc: Global, resolved: &Name, outputs: &[Name]) -> Result<B
     Ok(text)
 }
 
-/// The name at the beginning of a line of its own, and what stands behind the line.
+/// The name at the beginning of a line of its own, and what comes after the line.
 #[tactic(auto, unfolding(crate::specs::Reading::name_at))]
 fn name_at(bytes: &[u8]) -> Option<(Name, &[u8])>
     ensures { option_map (λ read. (read.0, read.1.now)) result ≡ name_at bytes.now }
@@ -69,7 +69,7 @@ fn name_at(bytes: &[u8]) -> Option<(Name, &[u8])>
     Some((name, rest))
 }
 
-/// The names up to the last line, as many as a note has at most, and what stands behind them.
+/// The names up to the last line, as many as a note has at most, and what comes after them.
 fn names_at(alloc: Global, bytes: &[u8]) -> Result<Option<(Many<Name>, &[u8])>, AllocError>
     ensures { IfOk result (λ found. option_map (λ read. (read.0, read.1.now)) found ≡ names_at 64 bytes.now) }
 {

@@ -1,5 +1,5 @@
 use Rattle.std.proofs.Common.{sym, ◌∙◌}
-use Rattle.file_tree.proofs.Repeats.{is_repeated, not_repeated, none_repeated}
+use Rattle.file_tree.proofs.FirstRepeated.{is_repeated, not_repeated, none_repeated}
 use Rattle.file_tree.proofs.item.find_repeated.Goals as goal
 
 pub returns-then-contains : goal.returns-then-contains

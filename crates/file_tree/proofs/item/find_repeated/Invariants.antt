@@ -1,4 +1,4 @@
-use Rattle.file_tree.proofs.Repeats.{HasLooked}
+use Rattle.file_tree.proofs.FirstRepeated.{HasLooked}
 use Rattle.file_tree.proofs.item.find_repeated.Given as goal
 
 abbrev pub invariant-items : goal.invariant-items

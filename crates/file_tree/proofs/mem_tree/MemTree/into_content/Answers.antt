@@ -1,7 +1,7 @@
 use Rattle.std.proofs.Common.{◌≡◌, List, ℕ, sym, ◌∙◌, ap}
 use Rattle.std.proofs.lemmas.Iterator.Consumers.{YieldsList-end, YieldsList-from_rest}
 use Rattle.std.proofs.lemmas.List.{map-id}
-use Rattle.file_tree.proofs.MapLemmas.{once_in}
+use Rattle.file_tree.proofs.TreeAsMap.{once_in}
 use Rattle.file_tree.proofs.mem_tree.MemTree.into_content.Goals as goal
 
 pub returns-clause-once : goal.returns-clause-once

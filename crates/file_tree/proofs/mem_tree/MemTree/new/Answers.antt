@@ -1,4 +1,4 @@
-use Rattle.file_tree.proofs.MapLemmas.{map_of-more}
+use Rattle.file_tree.proofs.TreeAsMap.{map_of-more}
 use Rattle.file_tree.proofs.mem_tree.MemTree.new.Goals as goal
 
 pub files-preserved-in_ok-insert : goal.files-preserved-in_ok-insert

@@ -1,6 +1,6 @@
 use Rattle.std.proofs.Common.{inl}
 use Rattle.std.proofs.lemmas.Result.{on_ok_weaker, on_err_weaker}
-use Rattle.file_tree.proofs.MapLemmas.{files_of-with_file, files_of-with_none, files_of-called}
+use Rattle.file_tree.proofs.TreeAsMap.{files_of-with_file, files_of-with_none, files_of-called}
 use Rattle.file_tree.proofs.mem_tree.MemTreeTree.TheImpl.Goals as goal
 
 pub write-tells : goal.write-tells

@@ -1,4 +1,4 @@
-use Rattle.file_tree.proofs.MapLemmas.{read-found}
+use Rattle.file_tree.proofs.TreeAsMap.{read-found}
 use Rattle.file_tree.proofs.mem_tree.MemTreeTree.read.Goals as goal
 
 pub returns-clause-found : goal.returns-clause-found

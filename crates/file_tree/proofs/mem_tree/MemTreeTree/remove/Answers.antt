@@ -1,4 +1,4 @@
-use Rattle.file_tree.proofs.MapLemmas.{memory-removed}
+use Rattle.file_tree.proofs.TreeAsMap.{memory-removed}
 use Rattle.file_tree.proofs.mem_tree.MemTreeTree.remove.Goals as goal
 
 pub returns-clause-made : goal.returns-clause-made

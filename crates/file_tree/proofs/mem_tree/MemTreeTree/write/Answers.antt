@@ -1,4 +1,4 @@
-use Rattle.file_tree.proofs.MapLemmas.{memory-inserted}
+use Rattle.file_tree.proofs.TreeAsMap.{memory-inserted}
 use Rattle.file_tree.proofs.mem_tree.MemTreeTree.write.Goals as goal
 
 pub returns-clause-made : goal.returns-clause-made

@@ -1,8 +1,9 @@
 //! Trees in a folder, of whose calls on files some fail.
 
-use crate::folder_tests::{holds, is_absent, path, remove, test_folder, write};
+use crate::folder_trees::{holds, is_absent, remove, write};
+use crate::folders::{path, test_folder};
 use crate::stopping::{Calls, Stopping};
-use crate::{FolderTree, Tree};
+use file_tree::{FolderTree, Tree};
 use std::fs;
 use std::test::Fail;
 
@@ -46,7 +47,7 @@ fn remove_stopping(rt: &HostRuntime, root: &str, first: u64) -> Result<Ended, Fa
 
 #[test]
 fn a_write_that_stops_makes_the_file_or_leaves_it_absent(rt: HostRuntime) -> Result<(), Fail> {
-    let root = test_folder(&rt, "stops")?;
+    let root = test_folder(&rt, "write-stops")?;
     let root = root.as_str();
     let whole = write_stopping(&rt, root, 0, 0)?;
     assert!(rt; whole.done && whole.calls < 100);
@@ -73,7 +74,7 @@ fn a_write_that_stops_makes_the_file_or_leaves_it_absent(rt: HostRuntime) -> Res
 
 #[test]
 fn a_write_that_stops_replaces_the_file_or_leaves_it(rt: HostRuntime) -> Result<(), Fail> {
-    let root = test_folder(&rt, "replaces")?;
+    let root = test_folder(&rt, "write-replaces")?;
     let root = root.as_str();
     // The file beside is made, written and renamed.
     for first in 1..5 {

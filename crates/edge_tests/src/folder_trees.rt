@@ -1,25 +1,11 @@
-//! Trees in a folder under the system's folder for temporary files.
+//! Trees in a folder.
 
-use crate::{FileRead, FolderTree, Tree};
+use crate::folders::{path, test_folder};
+use file_tree::{FileRead, FolderTree, Tree};
 use object_name::MAX_SIZE;
-use std::alloc::Global;
+use std::fs;
 use std::fs::File;
 use std::test::Fail;
-use std::{env, fs, io, process};
-use thunk_codec::Path;
-
-/// A folder for one test.
-pub fn test_folder(rt: &HostRuntime, test: &str) -> io::Result<String> {
-    let parent = env::temp_dir(rt)?;
-    let parent = parent.as_str();
-    let number = process::id(rt.process());
-    Ok(format!(in rt.alloc(); "{parent}/gg-file-tree-{number}-{test}")?)
-}
-
-/// A path.
-pub fn path(alloc: Global, text: &[u8]) -> Result<Path, Fail> {
-    Ok(Path::read(alloc, text)?.ok_or("there is a path")?)
-}
 
 /// What stands at a path.
 fn read(rt: &HostRuntime, root: &str, text: &[u8]) -> Result<FileRead, Fail> {
@@ -98,7 +84,7 @@ fn a_folder_and_what_passes_through_a_file_have_no_bytes(rt: HostRuntime) -> Res
 
 #[test]
 fn a_file_over_the_limit_is_too_long(rt: HostRuntime) -> Result<(), Fail> {
-    let root = test_folder(&rt, "limit")?;
+    let root = test_folder(&rt, "too-long")?;
     let root = root.as_str();
     assert_eq!(rt; write(&rt, root, b"a", b"abc")?, (true, 0));
     let name = format!(in rt.alloc(); "{root}/a")?;

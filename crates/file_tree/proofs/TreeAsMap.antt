@@ -13,10 +13,11 @@ use Rattle.std.proofs.lemmas.Cmp.{eq_by_cmp_equiv}
 use Rattle.std.proofs.lemmas.Map.Text.{is_eq-slice_cmp}
 use Rattle.std.proofs.lemmas.List.Sums.{fold-append}
 use Rattle.object_name.specs.Calls.{CallList, after_call}
+use Rattle.object_name.specs.Maps.{map_of}
 use Rattle.file_tree.specs.Files.{after_change, file_read}
 use Rattle.file_tree.specs.Files.Change.{Written, Removed}
 use Rattle.file_tree.specs.declared.tree.FileRead.{FileRead}
-use Rattle.file_tree.specs.Memory.{path_cmp, ByPath, Memory, map_of, files_of, with_file, with_none, called}
+use Rattle.file_tree.specs.Memory.{path_cmp, ByPath, Memory, files_of, with_file, with_none, called}
 
 abbrev Entries : Type 0
 Entries = List (List ℕ × List ℕ)
@@ -78,8 +79,8 @@ pub once_in : (held : ByPath) (es files : Entries) → map.from_entries es ≡ h
 once_in held es files view same rise = ap length same ∙ each_once es rise ∙ ap map.len view
 
 -- a pair more in a map that is made of pairs
-pub map_of-more : (pairs : Entries) (old new : Entries) (path bytes : List ℕ) → map.from_entries old ≡ map_of pairs → IsUpdate old new path (Some bytes)
-    → map.from_entries new ≡ map_of (pairs ++ (path, bytes) ∷ [])
+pub map_of-more : (pairs : Entries) (old new : Entries) (path bytes : List ℕ) → map.from_entries {R = path_cmp} old ≡ map_of pairs → IsUpdate old new path (Some bytes)
+    → map.from_entries {R = path_cmp} new ≡ map_of (pairs ++ (path, bytes) ∷ [])
 map_of-more pairs old new path bytes so_far update =
     inserted old new path bytes update ∙ ap (λ m. map.insert m path bytes) so_far
     ∙ sym (fold-append (λ (kept : ByPath) (pair : List ℕ × List ℕ). map.insert kept pair.0 pair.1) map.empty pairs ((path, bytes) ∷ []))

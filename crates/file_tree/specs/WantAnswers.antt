@@ -8,14 +8,14 @@ use Rattle.file_tree.specs.declared.refusal.FileRefusal.TheVariants.{Twice, NoFi
 use Rattle.file_tree.specs.declared.refusal.WantFault.{WantFault}
 use Rattle.file_tree.specs.declared.refusal.WantFault.TheVariants.{Refused, Failed, Memory}
 
--- the answer is this result, unless a call failed or memory was refused
+-- the answer is this result, unless a call failed or memory ran out
 abbrev pub Answers : {T : Type 0} → Result T FileRefusal → Result T WantFault → Type 0
 Answers wanted (Ok value) = wanted ≡ Ok value
 Answers wanted (Err (Refused refusal)) = wanted ≡ Err refusal
 Answers wanted (Err Failed) = Unit {0}
 Answers wanted (Err Memory) = Unit {0}
 
--- the refusal of an item of this text that stands twice, unless memory was refused
+-- the refusal of an item that repeats this text, unless memory ran out
 abbrev pub RefusesTwice : {T : Type 0} → List ℕ → Result T WantFault → Type 0
 RefusesTwice text result = (result ≡ Err (Refused (Twice text))) ⊎ (result ≡ Err Memory)
 
@@ -29,7 +29,7 @@ IsOther (Generated path) = Unit {0}
 IsOther (ThunkText path) = Unit {0}
 IsOther (Computed path line) = Unit {0}
 
--- no item is refused because it stands twice
+-- no item is refused because it is repeated
 abbrev pub NeverTwice : {T : Type 0} → Result T WantFault → Type 0
 NeverTwice (Ok value) = Unit {0}
 NeverTwice (Err (Refused refusal)) = IsOther refusal

@@ -8,7 +8,7 @@ use Rattle.thunk_codec.specs.Reference.{IsRef}
 use Rattle.file_tree.specs.Files.{Files}
 use Rattle.file_tree.specs.Wanted.{ref_of_item, refs_of, item_then}
 use Rattle.file_tree.specs.declared.item.Item.{Item}
-use Rattle.file_tree.specs.Wanting.{Answers}
+use Rattle.file_tree.specs.WantAnswers.{Answers}
 use Rattle.file_tree.specs.declared.refusal.FileRefusal.{FileRefusal}
 use Rattle.file_tree.specs.declared.refusal.WantFault.{WantFault}
 use Rattle.file_tree.specs.declared.refusal.WantFault.TheVariants.{Refused, Failed, Memory}
@@ -20,24 +20,24 @@ pub record HasGathered {T : Type 0} (tells : Type 0) (files : T → Files) (faul
   pub later : faults old ≤ faults now
   pub all_refs : All IsRef refs
 
--- references in front of others
-abbrev in_front_of : List Ref → Result (List Ref) FileRefusal → Result (List Ref) FileRefusal
-in_front_of refs (Ok behind) = Ok (refs ++ behind)
-in_front_of refs (Err refusal) = Err refusal
+-- references before others
+abbrev refs_before : List Ref → Result (List Ref) FileRefusal → Result (List Ref) FileRefusal
+refs_before refs (Ok later) = Ok (refs ++ later)
+refs_before refs (Err refusal) = Err refusal
 
--- the references of some items and of those behind them
+-- the references of some items and of those after them
 abbrev joined : Result (List Ref) FileRefusal → Result (List Ref) FileRefusal → Result (List Ref) FileRefusal
-joined (Ok refs) behind = in_front_of refs behind
-joined (Err refusal) behind = Err refusal
+joined (Ok refs) later = refs_before refs later
+joined (Err refusal) later = Err refusal
 
-joined-item : (first : Result Ref FileRefusal) (refs behind : Result (List Ref) FileRefusal) → item_then first (joined refs behind) ≡ joined (item_then first refs) behind
-joined-item (Err refusal) refs behind = refl
-joined-item (Ok ref) (Err refusal) behind = refl
+joined-item : (first : Result Ref FileRefusal) (refs later : Result (List Ref) FileRefusal) → item_then first (joined refs later) ≡ joined (item_then first refs) later
+joined-item (Err refusal) refs later = refl
+joined-item (Ok ref) (Err refusal) later = refl
 joined-item (Ok ref) (Ok refs) (Err refusal) = refl
-joined-item (Ok ref) (Ok refs) (Ok behind) = refl
+joined-item (Ok ref) (Ok refs) (Ok later) = refl
 
-joined-none : (behind : Result (List Ref) FileRefusal) → behind ≡ joined (Ok []) behind
-joined-none (Ok behind) = refl
+joined-none : (later : Result (List Ref) FileRefusal) → later ≡ joined (Ok []) later
+joined-none (Ok later) = refl
 joined-none (Err refusal) = refl
 
 module _ (files : Files) where
@@ -49,11 +49,11 @@ module _ (files : Files) where
   unfolding refs_of
   refs_of-item item items = refl
 
-  refs_of-append : (first behind : List Item) → refs_of files (first ++ behind) ≡ joined (refs_of files first) (refs_of files behind)
-  refs_of-append [] behind = joined-none (refs_of files behind) ∙ ap (λ r. joined r (refs_of files behind)) (sym no_refs)
-  refs_of-append (item ∷ first) behind =
-      refs_of-item item (first ++ behind) ∙ ap (item_then (ref_of_item files item)) (refs_of-append first behind)
-      ∙ joined-item (ref_of_item files item) (refs_of files first) (refs_of files behind) ∙ ap (λ r. joined r (refs_of files behind)) (sym (refs_of-item item first))
+  refs_of-append : (first later : List Item) → refs_of files (first ++ later) ≡ joined (refs_of files first) (refs_of files later)
+  refs_of-append [] later = joined-none (refs_of files later) ∙ ap (λ r. joined r (refs_of files later)) (sym no_refs)
+  refs_of-append (item ∷ first) later =
+      refs_of-item item (first ++ later) ∙ ap (item_then (ref_of_item files item)) (refs_of-append first later)
+      ∙ joined-item (ref_of_item files item) (refs_of files first) (refs_of files later) ∙ ap (λ r. joined r (refs_of files later)) (sym (refs_of-item item first))
 
   module _ (items : List Item) (index : ℕ) (refs : List Ref) (so_far : refs_of files (take index items) ≡ Ok refs) where
     -- no item is left
@@ -67,7 +67,7 @@ module _ (files : Files) where
           ap (refs_of files) (take_more items index item lt ∙ ap (λ last. take index items ++ last ∷ []) (sym at))
           ∙ refs_of-append (take index items) (item ∷ [])
           ∙ ap (λ r. joined r (refs_of files (item ∷ []))) so_far
-          ∙ ap (in_front_of refs) (refs_of-item item [] ∙ ap (item_then (ref_of_item files item)) no_refs ∙ ap (λ r. item_then r (Ok [])) is)
+          ∙ ap (refs_before refs) (refs_of-item item [] ∙ ap (item_then (ref_of_item files item)) no_refs ∙ ap (λ r. item_then r (Ok [])) is)
 
       -- the next item is refused
       pub one_refused : (refusal : FileRefusal) → ref_of_item files item ≡ Err refusal → refs_of files items ≡ Err refusal
@@ -75,7 +75,7 @@ module _ (files : Files) where
           ap (refs_of files) (sym (take-append-drop index items) ∙ ap (λ rest. take index items ++ rest) (drop_more items index item lt ∙ ap (λ first. first ∷ drop (index + 1) items) (sym at)))
           ∙ refs_of-append (take index items) (item ∷ drop (index + 1) items)
           ∙ ap (λ r. joined r (refs_of files (item ∷ drop (index + 1) items))) so_far
-          ∙ ap (in_front_of refs) (refs_of-item item (drop (index + 1) items) ∙ ap (λ r. item_then r (refs_of files (drop (index + 1) items))) is)
+          ∙ ap (refs_before refs) (refs_of-item item (drop (index + 1) items) ∙ ap (λ r. item_then r (refs_of files (drop (index + 1) items))) is)
 
 -- the fault that an item ends with is that of all the items
 pub refused : (old now : Files) (items : List Item) (index : ℕ) (refs : List Ref) → refs_of old (take index items) ≡ Ok refs → now ≡ old

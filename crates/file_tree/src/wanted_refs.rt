@@ -4,11 +4,11 @@ ghost use Rattle.std.specs.Prelude.{◌≡◌, ◌≢◌, ◌≤◌, All, None, 
 ghost use Rattle.thunk_codec.specs.Reference.{IsRef};
 ghost use Rattle.file_tree.specs.Files.{file_read};
 ghost use Rattle.file_tree.specs.Wanted.{IsItem, ref_of_item, ref_of_read, refs_of, repeated_item, wanted_of};
-ghost use Rattle.file_tree.specs.Wanting.{Answers, NeverTwice, RefusesTwice, WantCause};
+ghost use Rattle.file_tree.specs.WantAnswers.{Answers, NeverTwice, RefusesTwice, WantCause};
 
-use crate::again::read_again;
 use crate::item::{Item, find_repeated};
 use crate::refusal::{FileRefusal, WantFault};
+use crate::retries::read_again;
 use crate::tree::{FileRead, Tree};
 use object_name::{Many, TryCopy};
 use std::alloc::Global;

@@ -1,5 +1,5 @@
-use Rattle.file_tree.proofs.Gathering.{HasGathered}
-use Rattle.file_tree.proofs.wanting.refs_of.Given as goal
+use Rattle.file_tree.proofs.GatheredRefs.{HasGathered}
+use Rattle.file_tree.proofs.wanted_refs.refs_of.Given as goal
 
 abbrev pub invariant-items : goal.invariant-items
 invariant-items g l = HasGathered g.T.Tree.tells g.T.Tree.files g.T.Tree.faults l.initial.tree l.tree l.items l.item-index l.refs

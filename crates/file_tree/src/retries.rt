@@ -6,7 +6,7 @@ ghost use Rattle.file_tree.specs.Files.{MayChange, IsShort, after_change, file_r
 ghost use Rattle.file_tree.specs.Files.Change.{Written};
 
 use crate::tree::{FileRead, Tree};
-use object_name::Trouble;
+use object_name::{Trouble, try_again};
 use std::alloc::Global;
 use thunk_codec::Path;
 
@@ -22,13 +22,7 @@ pub fn read_again<T: Tree>(
     ensures same { T.tells → T.files tree.new ≡ T.files tree.old }
     ensures cause { HasCauseBy retries (T.faults tree.old) (T.faults tree.new) result }
 {
-    'tries: for _ in 0..retries {
-        match tree.read(alloc, path) {
-            Err(Trouble::Failed) => {}
-            answer => return answer,
-        }
-    }
-    tree.read(alloc, path)
+    try_again!(tried in retries, tree.read(alloc, path))
 }
 
 /// Writes a file by the first of `retries` + 1 calls that doesn't fail. A failed write may have been made.
@@ -42,11 +36,5 @@ pub fn write_again<T: Tree>(
     ensures kept { T.tells → OnErr result (MayChange (T.files tree.old) (Written path.now bytes.now) (T.files tree.new)) }
     ensures cause { HasCauseBy retries (T.faults tree.old) (T.faults tree.new) result }
 {
-    'tries: for _ in 0..retries {
-        match tree.write(path, bytes) {
-            Err(Trouble::Failed) => {}
-            answer => return answer,
-        }
-    }
-    tree.write(path, bytes)
+    try_again!(tried in retries, tree.write(path, bytes))
 }

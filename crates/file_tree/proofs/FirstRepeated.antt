@@ -24,7 +24,7 @@ repeated_later earlier texts text is = rw is refl
 abbrev texts_of : List Item → List (List ℕ)
 texts_of items = map item_text items
 
--- the items up to a place have been looked at, and no text stands twice among them
+-- the items up to an index have been looked at, and no text is repeated among them
 pub record HasLooked (items : List Item) (index : ℕ) (seen : List (List ℕ)) : Type 0 where
   pub so_far : first_repeated [] (texts_of items) ≡ first_repeated (texts_of (take index items)) (texts_of (drop index items))
   pub among : (text : List ℕ) → list_any (bytes_eq text) seen ≡ list_any (bytes_eq text) (texts_of (take index items))

@@ -1,6 +1,6 @@
 use Rattle.std.proofs.Common.{rules, ◌∙◌}
-use Rattle.file_tree.proofs.Gathering.{no_refs, gathered, refused, all_refs-more}
-use Rattle.file_tree.proofs.wanting.refs_of.Goals as goal
+use Rattle.file_tree.proofs.GatheredRefs.{no_refs, gathered, refused, all_refs-more}
+use Rattle.file_tree.proofs.wanted_refs.refs_of.Goals as goal
 
 pub items-init : goal.items-init
 items-init g c =
