@@ -1,7 +1,9 @@
-pub mod WritingLemmas
-pub mod PrintingLemmas
-pub mod WordLemmas
-pub mod FilingLemmas
-pub mod EndingLemmas
-pub mod ForcingLemmas
-pub mod TopLemmas
+pub mod WritesJoin
+pub mod PiecesJoin
+pub mod LinesAreWrittenInOrder
+pub mod WordsAreReadInOrder
+pub mod FilesAreWrittenInOrder
+pub mod EndsArePrefixes
+pub mod PartsCauseTheWhole
+pub mod StepsMakeTheAnswer
+pub mod LinesFitTheStatus

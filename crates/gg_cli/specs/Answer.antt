@@ -8,18 +8,20 @@ use Rattle.file_tree.specs.Files.{Files, Change}
 use Rattle.file_tree.specs.Wanted.{wanted_of}
 use Rattle.file_tree.specs.declared.item.Item.{Item}
 use Rattle.file_tree.specs.declared.refusal.FileRefusal.{FileRefusal}
-use Rattle.need_eval.specs.declared.fault.Refusal.{Refusal}
 use Rattle.need_eval.specs.declared.fault.Refusal.TheVariants as refusals
 use Rattle.need_eval.specs.Eval.{Stop, Refused, Clash, Stands, Ended, Got, Stopped, start}
 use Rattle.need_eval.specs.Evaluation.{values_of, by_function}
+use Rattle.gg_cli.specs.declared.fault.TopFault.{TopFault}
+use Rattle.gg_cli.specs.declared.fault.TopFault.TheVariants as faults
 use Rattle.gg_cli.specs.declared.status.Status.{Status}
-use Rattle.gg_cli.specs.declared.status.Status.TheVariants as statuses
+use Rattle.gg_cli.specs.declared.status.Status.TheVariants.{Done}
 use Rattle.gg_cli.specs.declared.words.Command.{Command}
 use Rattle.gg_cli.specs.declared.words.Command.TheVariants.{Force}
 use Rattle.gg_cli.specs.Words.{command_of}
 use Rattle.sandbox_run.specs.Cards.{card_outcome}
-use Rattle.gg_cli.specs.Texts.{fault_line, usage_line, stop_text, refusal_text, file_text, value_lines}
-use Rattle.gg_cli.specs.Filing.{Filing, filed}
+use Rattle.gg_cli.specs.Endings.{ending_of, line_of}
+use Rattle.gg_cli.specs.ValueLines.{value_lines}
+use Rattle.gg_cli.specs.ValueFiles.{Filing, filed}
 
 -- what a command line is to do: the writes to the store in order, then the changes of files in order, the status, what is
 -- printed, and the line of the fault, if there is one
@@ -30,30 +32,24 @@ pub record Answer : Type 0 where
   pub text : List ℕ
   pub line : List ℕ
 
--- the status of a refusal
-abbrev pub refusal_status : Refusal → Status
-refusal_status (refusals.Missing name) = statuses.Missing
-refusal_status (refusals.BadThunk name) = statuses.BadThunk
-refusal_status (refusals.NoOutput name index) = statuses.NoOutput
-refusal_status (refusals.Spent name budget) = statuses.Spent
-refusal_status (refusals.TooBig name bytes) = statuses.TooBig
-refusal_status (refusals.FunctionFailed name status) = statuses.FunctionFailed
+-- all is done, and this is printed
+abbrev pub done : List Write → List Change → List ℕ → Answer
+done writes changes text = record { writes = writes; changes = changes; status = Done; text = text; line = [] }
 
--- the status of a stop; with one function an evaluation never stands at a job
-abbrev pub stop_status : Stop → Status
-stop_status (Refused refusal) = refusal_status refusal
-stop_status (Clash name found fresh) = statuses.Clash
-stop_status (Stands text job) = statuses.Memory
+-- a fault ends it, after these writes and changes
+abbrev pub ended_by : List Write → List Change → TopFault → Answer
+ended_by writes changes fault = record { writes = writes; changes = changes; status = (ending_of fault).status; text = []; line = line_of fault }
 
--- the answer where nothing is done
-abbrev pub refused : Status → List ℕ → Answer
-refused status text = record { writes = []; changes = []; status = status; text = []; line = fault_line text }
+-- the fault of a stop; with one function an evaluation never stands at a job
+abbrev pub stop_fault : Stop → TopFault
+stop_fault (Refused refusal) = faults.Refused refusal
+stop_fault (Clash name found fresh) = faults.Clash name
+stop_fault (Stands text job) = faults.Memory
 
 -- the answer by what goes to files: a value that isn't held then is a missing object
 abbrev pub filed_by : List Write → List Change → List ℕ → Option ObjectName → Answer
-filed_by writes changes text None = record { writes = writes; changes = changes; status = statuses.Done; text = text; line = [] }
-filed_by writes changes text (Some name) =
-    record { writes = writes; changes = changes; status = statuses.Missing; text = []; line = fault_line (refusal_text (refusals.Missing name)) }
+filed_by writes changes text None = done writes changes text
+filed_by writes changes text (Some name) = ended_by writes changes (faults.Refused (refusals.Missing name))
 
 -- the answer where these are the values: they go to the files that wanted them, and then they are printed
 abbrev pub handed_out : List Write → List ObjectName → List Item → Filing → Answer
@@ -62,16 +58,16 @@ handed_out writes names items filing = filed_by writes filing.changes (value_lin
 -- the answer by the end of the evaluation
 abbrev pub forced : List Item → Ended (List ObjectName) → Answer
 forced items (Got names s) = handed_out s.writes names items (filed s.store.objects names items)
-forced items (Stopped why s) = record { writes = s.writes; changes = []; status = stop_status why; text = []; line = fault_line (stop_text why) }
+forced items (Stopped why s) = ended_by s.writes [] (stop_fault why)
 
 -- the answer by the references of the items: they are evaluated, unless an item is refused
 abbrev pub wanted_forced : ℕ → List Item → Store → Result (List Ref) FileRefusal → Answer
-wanted_forced budget items store (Err refusal) = refused statuses.FileRefused (file_text refusal)
+wanted_forced budget items store (Err refusal) = ended_by [] [] (faults.FileRefused refusal)
 wanted_forced budget items store (Ok refs) = forced items (values_of (by_function card_outcome) budget refs (start store))
 
 -- the answer of a command, or of words that are none
 abbrev pub answer_of_command : Option Command → Store → Files → Answer
-answer_of_command None store files = record { writes = []; changes = []; status = statuses.Usage; text = []; line = usage_line }
+answer_of_command None store files = ended_by [] [] faults.Usage
 answer_of_command (Some (Force budget retries items)) store files = wanted_forced budget items store (wanted_of files items)
 
 -- the answer of some words

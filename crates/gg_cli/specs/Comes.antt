@@ -7,28 +7,48 @@ use Rattle.blob_store.specs.Store.{Store, Write, written}
 use Rattle.file_tree.specs.Files.{Files, Change, changed}
 use Rattle.gg_cli.specs.declared.status.Status.{Status}
 use Rattle.gg_cli.specs.declared.status.Status.TheVariants.{Done, StoreFault, FileFault, ByteFault, Memory}
-use Rattle.gg_cli.specs.Texts.{store_fault_line, file_fault_line, output_fault_line, memory_line}
+use Rattle.gg_cli.specs.declared.fault.TopFault.TheVariants as faults
+use Rattle.gg_cli.specs.Endings.{line_of}
 use Rattle.gg_cli.specs.Answer.{Answer}
 
--- what was there before a call and after it: the store, the files, and the bytes on the output where they are told
-pub record Made : Type 0 where
-  pub before : Store
-  pub after : Store
-  pub files_before : Files
-  pub files_after : Files
-  pub out_before : Option (List ℕ)
-  pub out_after : Option (List ℕ)
+-- what is known of the keeper, the tree and the output before a call and after it
+pub record Around (A B C : Type 0) : Type 0 where
+  pub kept_before : A
+  pub kept_after : A
+  pub files_before : B
+  pub files_after : B
+  pub out_before : C
+  pub out_after : C
+
+-- what they hold: the store, the files, and the bytes on the output where they are told
+abbrev pub Made : Type 0
+Made = Around Store Files (Option (List ℕ))
+
+-- their counts of faults
+abbrev pub Counts : Type 0
+Counts = Around ℕ ℕ ℕ
+
+-- the same, by what is read of each of the three
+abbrev pub around : {K T O A B C : Type 0} → (K → A) → (T → B) → (O → C) → K → K → T → T → O → O → Around A B C
+around kept files out keeper keeper_after tree tree_after sink sink_after = record {
+  kept_before = kept keeper;
+  kept_after = kept keeper_after;
+  files_before = files tree;
+  files_after = files tree_after;
+  out_before = out sink;
+  out_after = out sink_after;
+}
 
 -- a prefix of the answer's writes was made, and no file was changed
 pub record MadeWrites (a : Answer) (m : Made) : Type 0 where
   pub prefix : List Write
   pub is_prefix : IsPrefix prefix a.writes
-  pub after : m.after ≡ written m.before prefix
+  pub after : m.kept_after ≡ written m.kept_before prefix
   pub files : m.files_after ≡ m.files_before
 
 -- all of the answer's writes were made, and a prefix of its changes of files
 pub record MadeChanges (a : Answer) (m : Made) : Type 0 where
-  pub after : m.after ≡ written m.before a.writes
+  pub after : m.kept_after ≡ written m.kept_before a.writes
   pub prefix : List Change
   pub is_prefix : IsPrefix prefix a.changes
   pub files : m.files_after ≡ changed m.files_before prefix
@@ -39,7 +59,7 @@ MadePrefix a m = MadeWrites a m ⊎ MadeChanges a m
 
 -- all that the answer does was made
 pub record MadeAll (a : Answer) (m : Made) : Type 0 where
-  pub after : m.after ≡ written m.before a.writes
+  pub after : m.kept_after ≡ written m.kept_before a.writes
   pub files : m.files_after ≡ changed m.files_before a.changes
 
 -- the answer, whole
@@ -59,12 +79,12 @@ pub record IsOutFault (a : Answer) (m : Made) : Type 0 where
   pub all : MadeAll a m
   pub text : AppendsPrefix m.out_before m.out_after a.text
 
--- want of memory: a prefix of what is done and a prefix of the text
+-- out of memory: a prefix of what is done and a prefix of the text
 pub record IsMemory (a : Answer) (m : Made) : Type 0 where
   pub prefix : MadePrefix a m
   pub text : AppendsPrefix m.out_before m.out_after a.text
 
--- the status comes so: but for the three faults and want of memory, each is the answer's, and comes with all of it
+-- the status comes so: but for the three faults and out of memory, each is the answer's, and comes with all of it
 abbrev pub Comes : Answer → Made → Status → Type 0
 Comes a m StoreFault = IsCallFault a m
 Comes a m FileFault = IsCallFault a m
@@ -74,17 +94,17 @@ Comes a m status = IsWhole a m status
 
 -- the line that a status prints, but for `Done`, which prints none
 abbrev pub status_line : Answer → Status → List ℕ
-status_line a StoreFault = store_fault_line
-status_line a FileFault = file_fault_line
-status_line a ByteFault = output_fault_line
-status_line a Memory = memory_line
+status_line a StoreFault = line_of faults.StoreFailed
+status_line a FileFault = line_of faults.FileFailed
+status_line a ByteFault = line_of faults.OutputFailed
+status_line a Memory = line_of faults.Memory
 status_line a status = a.line
 
 -- a line that a fault prints
 abbrev pub IsFaultLine : Answer → List ℕ → Type 0
 IsFaultLine a line = (status : Status) × (line ≡ status_line a status)
 
--- want of memory: a prefix of one line that a fault prints
+-- out of memory: a prefix of one line that a fault prints
 pub record SaysPrefix (a : Answer) (before after : Option (List ℕ)) : Type 0 where
   pub line : List ℕ
   pub is_line : IsFaultLine a line
@@ -100,15 +120,6 @@ abbrev pub Says : Answer → Status → Option (List ℕ) → Option (List ℕ) 
 Says a Done before after faults_before faults_after = Appends before after []
 Says a Memory before after faults_before faults_after = SaysPrefix a before after
 Says a status before after faults_before faults_after = SaysWhole (status_line a status) before after faults_before faults_after
-
--- the counts of faults before a call and after it: the keeper's, the tree's and the output's
-pub record Counts : Type 0 where
-  pub kept_before : ℕ
-  pub kept_after : ℕ
-  pub files_before : ℕ
-  pub files_after : ℕ
-  pub out_before : ℕ
-  pub out_after : ℕ
 
 -- faults come only where a count rose, whatever is told: the keeper's and the tree's by more than the retries
 abbrev pub TopCause : ℕ → Counts → Status → Type 0

@@ -1,11 +1,11 @@
 pub mod Words
 pub mod Reading
-pub mod Texts
-pub mod Filing
+pub mod Endings
+pub mod Pieces
+pub mod ValueLines
+pub mod ValueFiles
 pub mod Answer
 pub mod Comes
-pub mod Codes
-pub mod Commands
-pub mod Faults
+pub mod LowerFaults
 pub mod Writing
-pub mod Ending
+pub mod StepContracts

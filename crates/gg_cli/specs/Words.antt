@@ -1,15 +1,17 @@
 -- Command lines, by their words.
-use Rattle.std.specs.Prelude.{ℕ, List, [], ◌∷◌, length, nat_le, nat_eq, Option, Some, None, bytes_eq, codes, if◌then◌else◌}
+use Rattle.std.specs.Prelude.{ℕ, All, List, [], ◌∷◌, length, nat_le, nat_eq, Option, Some, None, unwrap_or, bytes_eq, codes, if◌then◌else◌}
 use Rattle.std.specs.List.{starts_with}
 use Rattle.object_name.specs.Number.{number_of}
 use Rattle.thunk_codec.specs.declared.reference.Ref.{Ref}
 use Rattle.text_lines.specs.Maybe.{◌>>=◌, ◌>>◌, check}
 use Rattle.thunk_codec.specs.Path.{path_of}
 use Rattle.thunk_codec.specs.Reference.{ref_of}
+use Rattle.file_tree.specs.Wanted.{IsItem}
 use Rattle.file_tree.specs.declared.item.Item.{Item}
 use Rattle.file_tree.specs.declared.item.Item.TheVariants.{File, Bare}
 use Rattle.gg_cli.specs.declared.words.Command.{Command}
 use Rattle.gg_cli.specs.declared.words.Command.TheVariants.{Force}
+use Rattle.gg_cli.specs.declared.words.Options.{Options}
 
 -- the greatest number of steps where none is given, and the most that may be given
 abbrev pub default_budget : ℕ
@@ -66,62 +68,44 @@ items_in (word ∷ words) = do
   items ← items_in words
   Some (item ∷ items)
 
--- `ITEM` and more items: at least one, and not too many
-abbrev pub force_items : ℕ → ℕ → List (List ℕ) → Option Command
-force_items budget retries words = do
+-- no option is given yet
+abbrev pub no_options : Options
+no_options = record { budget = None; retries = None }
+
+-- a number for a slot: none where the slot is full already
+abbrev pub filled : Option ℕ → Option ℕ → Option ℕ
+filled None number = number
+filled (Some given) number = None
+
+-- the options with one more, where `word` names an option whose slot is empty and `value` is a number for it: a line for each option
+abbrev pub with_option : Options → List ℕ → List ℕ → Option Options
+with_option given word value =
+    if bytes_eq word (codes "--budget") then (filled given.budget (budget_of value) >>= λ budget. Some (record given { budget = Some budget }))
+    else if bytes_eq word (codes "--retries") then (filled given.retries (retries_of value) >>= λ retries. Some (record given { retries = Some retries }))
+    else None
+
+-- the options that some words begin with, beside those given, and the words after them. An option whose slot is full or whose value
+-- is no number for it stays the first of the words after them, where no word may begin with `-`
+abbrev pub options_of : Options → List (List ℕ) → Options × List (List ℕ)
+options_of given (word ∷ value ∷ rest) = elim (with_option given word value) [ Some more ↦ options_of more rest | None ↦ (given, word ∷ value ∷ rest) ]
+options_of given rest = (given, rest)
+
+-- `ITEM` and more items after the options: at least one, and not too many
+abbrev pub force_items : Options → List (List ℕ) → Option Command
+force_items given words = do
   check (nat_le 1 (length words))
   check (nat_le (length words) max_items)
   items ← items_in words
-  Some (Force budget retries items)
+  Some (Force (unwrap_or given.budget default_budget) (unwrap_or given.retries default_retries) items)
 
--- `N ITEM` and more items, behind the second option
-abbrev pub last_budget : ℕ → List (List ℕ) → Option Command
-last_budget retries [] = None
-last_budget retries (word ∷ words) = do
-  budget ← budget_of word
-  force_items budget retries words
+-- the words, but for a `--local` that they begin with
+abbrev pub without_local : List (List ℕ) → List (List ℕ)
+without_local [] = []
+without_local (first ∷ words) = if bytes_eq first (codes "--local") then words else first ∷ words
 
-abbrev pub last_retries : ℕ → List (List ℕ) → Option Command
-last_retries budget [] = None
-last_retries budget (word ∷ words) = do
-  retries ← retries_of word
-  force_items budget retries words
-
--- `[--retries N] ITEM` and more items, behind a budget
-abbrev pub behind_budget : ℕ → List (List ℕ) → Option Command
-behind_budget budget [] = None
-behind_budget budget (first ∷ words) = if bytes_eq first (codes "--retries") then last_retries budget words else force_items budget default_retries (first ∷ words)
-
--- `[--budget N] ITEM` and more items, behind retries
-abbrev pub behind_retries : ℕ → List (List ℕ) → Option Command
-behind_retries retries [] = None
-behind_retries retries (first ∷ words) = if bytes_eq first (codes "--budget") then last_budget retries words else force_items default_budget retries (first ∷ words)
-
--- what follows the first option
-abbrev pub first_budget : List (List ℕ) → Option Command
-first_budget [] = None
-first_budget (word ∷ words) = do
-  budget ← budget_of word
-  behind_budget budget words
-
-abbrev pub first_retries : List (List ℕ) → Option Command
-first_retries [] = None
-first_retries (word ∷ words) = do
-  retries ← retries_of word
-  behind_retries retries words
-
--- `[--budget N] [--retries N] ITEM` and more items, the options in either order
-abbrev pub options_of : List (List ℕ) → Option Command
-options_of [] = None
-options_of (first ∷ words) =
-    if bytes_eq first (codes "--budget") then first_budget words
-    else if bytes_eq first (codes "--retries") then first_retries words
-    else force_items default_budget default_retries (first ∷ words)
-
--- what follows `force`: `[--local]`, options and items
+-- what follows `force`: `[--local]`, options in any order, and items
 abbrev pub force_of : List (List ℕ) → Option Command
-force_of [] = None
-force_of (first ∷ words) = if bytes_eq first (codes "--local") then options_of words else options_of (first ∷ words)
+force_of words = let read = options_of no_options (without_local words) in force_items read.0 read.1
 
 -- the command that some words are, if they are one
 unfoldable pub command_of : List (List ℕ) → Option Command
@@ -132,3 +116,7 @@ command_of (first ∷ words) = if bytes_eq first (codes "force") then force_of w
 abbrev pub retries_in : Option Command → ℕ
 retries_in None = default_retries
 retries_in (Some (Force budget retries items)) = retries
+
+-- what a command that was read keeps: what is wanted is named by names of the right kind
+abbrev pub IsCommand : Command → Type 0
+IsCommand (Force budget retries items) = All IsItem items

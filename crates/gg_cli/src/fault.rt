@@ -1,14 +1,10 @@
 //! Why a command line isn't done.
 
 ghost use Rattle.std.specs.Prelude.{◌≡◌};
-ghost use Rattle.gg_cli.specs.declared.fault.TopFault.TheVariants.{Memory};
-ghost use Rattle.gg_cli.specs.Answer.{refusal_status};
 
-use crate::status::Status;
 use file_tree::{FileRefusal, WantFault};
 use need_eval::Refusal;
 use object_name::Name;
-use std::alloc::{AllocError, AllocFailed};
 
 /// Why a command line isn't done.
 #[derive(Debug, Drop)]
@@ -27,7 +23,7 @@ pub(crate) enum TopFault {
     FileFailed,
     /// The output failed.
     OutputFailed,
-    /// Memory was refused.
+    /// Memory ran out.
     Memory,
 }
 
@@ -40,28 +36,12 @@ pub(crate) enum FilingFault {
     StoreFailed,
     /// The tree failed.
     FileFailed,
-    /// Memory was refused.
+    /// Memory ran out.
     Memory,
 }
 
-impl From<AllocError> for TopFault {
-    ghost from_gives = { λ _ fault. fault ≡ Memory };
-
-    fn from(_: AllocError) -> Self {
-        TopFault::Memory
-    }
-}
-
-impl<T: Drop> From<AllocFailed<T>> for TopFault {
-    ghost from_gives = { λ _ fault. fault ≡ Memory };
-
-    fn from(_: AllocFailed<T>) -> Self {
-        TopFault::Memory
-    }
-}
-
 impl From<WantFault> for TopFault {
-    ghost use Rattle.gg_cli.specs.Faults.{want_fault};
+    ghost use Rattle.gg_cli.specs.LowerFaults.{want_fault};
 
     ghost from_gives = { λ fault top. top ≡ want_fault fault };
 
@@ -75,7 +55,7 @@ impl From<WantFault> for TopFault {
 }
 
 impl From<FilingFault> for TopFault {
-    ghost use Rattle.gg_cli.specs.Faults.{filing_fault};
+    ghost use Rattle.gg_cli.specs.LowerFaults.{filing_fault};
 
     ghost from_gives = { λ fault top. top ≡ filing_fault fault };
 
@@ -85,40 +65,6 @@ impl From<FilingFault> for TopFault {
             FilingFault::StoreFailed => TopFault::StoreFailed,
             FilingFault::FileFailed => TopFault::FileFailed,
             FilingFault::Memory => TopFault::Memory,
-        }
-    }
-}
-
-/// The status of a refusal.
-fn refusal_status(refusal: &Refusal) -> Status
-    ensures { result ≡ refusal_status refusal.now }
-{
-    match refusal {
-        Refusal::Missing(_) => Status::Missing,
-        Refusal::BadThunk(_) => Status::BadThunk,
-        Refusal::NoOutput { .. } => Status::NoOutput,
-        Refusal::Spent { .. } => Status::Spent,
-        Refusal::TooBig { .. } => Status::TooBig,
-        Refusal::FunctionFailed { .. } => Status::FunctionFailed,
-    }
-}
-
-impl TopFault {
-    ghost use Rattle.gg_cli.specs.Faults.{fault_status};
-
-    /// The status that it ends with.
-    pub(crate) fn status(&self) -> Status
-        ensures { result ≡ fault_status self.now }
-    {
-        match self {
-            TopFault::Usage => Status::Usage,
-            TopFault::FileRefused(_) => Status::FileRefused,
-            TopFault::Refused(refusal) => refusal_status(refusal),
-            TopFault::Clash(_) => Status::Clash,
-            TopFault::StoreFailed => Status::StoreFault,
-            TopFault::FileFailed => Status::FileFault,
-            TopFault::OutputFailed => Status::ByteFault,
-            TopFault::Memory => Status::Memory,
         }
     }
 }

@@ -1,17 +1,15 @@
 //! The command line of gg: its words, its answer, and the texts that it prints.
 #![tactic(auto)]
 
+mod endings;
 mod fault;
-mod filing;
-mod forcing;
-mod printing;
-mod saying;
+mod force_command;
+mod pieces;
 mod status;
-#[cfg(test)]
-mod tests;
 mod top;
+mod value_files;
+mod value_lines;
 mod words;
-mod writing;
 
 pub use status::Status;
 pub use top::gg_top;

@@ -1,63 +1,48 @@
 //! How a command line ended.
 
 ghost use Rattle.std.specs.Prelude.{◌≡◌};
-ghost use Rattle.gg_cli.specs.Codes.{code_of};
+ghost use Rattle.gg_cli.specs.Endings.{code_of};
 
-/// How a command line ended.
+/// How a command line ended, with the exit status of the program.
 #[derive(Clone, Copy, Debug, PartialEq, Eq)]
 pub enum Status {
     /// All is done.
-    Done,
+    Done = 0,
     /// A thunk's function failed.
-    FunctionFailed,
+    FunctionFailed = 1,
     /// The words are no command line.
-    Usage,
+    Usage = 2,
     /// A wanted object isn't held.
-    Missing,
+    Missing = 3,
     /// A wanted thunk's bytes are the text of no thunk.
-    BadThunk,
+    BadThunk = 4,
     /// A thunk has no output of the wanted place.
-    NoOutput,
+    NoOutput = 5,
     /// The budget of steps is spent.
-    Spent,
+    Spent = 6,
     /// A job's encoding is over the limit.
-    TooBig,
+    TooBig = 7,
     /// An item is refused.
-    FileRefused,
+    FileRefused = 8,
     /// Two objects have one name.
-    Clash,
+    Clash = 10,
     /// The keeper failed.
-    StoreFault,
+    StoreFault = 12,
     /// The tree failed.
-    FileFault,
+    FileFault = 13,
     /// The output failed.
-    ByteFault,
-    /// Memory was refused.
-    Memory,
+    ByteFault = 14,
+    /// Memory ran out.
+    Memory = 17,
 }
 
 impl Status {
-    ghost use Rattle.gg_cli.specs.Codes.{code_of};
+    ghost use Rattle.gg_cli.specs.Endings.{code_of};
 
     /// The exit status of the program.
     pub fn code(&self) -> u8
         ensures { result ≡ code_of self.now }
     {
-        match self {
-            Status::Done => 0,
-            Status::FunctionFailed => 1,
-            Status::Usage => 2,
-            Status::Missing => 3,
-            Status::BadThunk => 4,
-            Status::NoOutput => 5,
-            Status::Spent => 6,
-            Status::TooBig => 7,
-            Status::FileRefused => 8,
-            Status::Clash => 10,
-            Status::StoreFault => 12,
-            Status::FileFault => 13,
-            Status::ByteFault => 14,
-            Status::Memory => 17,
-        }
+        *self as u8
     }
 }

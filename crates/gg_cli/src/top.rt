@@ -1,15 +1,14 @@
 //! One command line, from its words to what is written.
 
 ghost use Rattle.std.specs.Prelude.{◌≡◌, ◌≢◌, ◌⊎◌, Some, None, Err, map, string_bytes};
-ghost use Rattle.gg_cli.specs.Words.{command_of, retries_in};
-ghost use Rattle.gg_cli.specs.Commands.{IsCommand};
+ghost use Rattle.gg_cli.specs.Words.{command_of, retries_in, IsCommand};
 ghost use Rattle.gg_cli.specs.Answer.{answer_of, answer_of_command};
-ghost use Rattle.gg_cli.specs.Comes.{Comes, Says, TopCause};
-ghost use Rattle.gg_cli.specs.Ending.{Ends, EndCause};
+ghost use Rattle.gg_cli.specs.Comes.{around, Comes, Says, TopCause};
+ghost use Rattle.gg_cli.specs.StepContracts.{Ends, EndCause};
 
+use crate::endings::say;
 use crate::fault::TopFault;
-use crate::forcing::force;
-use crate::saying::say;
+use crate::force_command::force;
 use crate::status::Status;
 use crate::words::{Command, WordFault, read_words};
 use blob_store::Keeper;
@@ -27,22 +26,8 @@ fn do_command<K: Keeper, T: Tree, O: Sink>(
 ) -> Result<(), TopFault>
     requires { IsCommand command.now }
     ensures ends { K.tells → T.tells → Ends (answer_of_command (Some command.now) (K.store keeper.old) (T.files tree.old))
-        (record {
-          before = K.store keeper.old;
-          after = K.store keeper.new;
-          files_before = T.files tree.old;
-          files_after = T.files tree.new;
-          out_before = O.written out.old;
-          out_after = O.written out.new;
-        }) result }
-    ensures cause { EndCause (retries_in (Some command.now)) (record {
-      kept_before = K.faults keeper.old;
-      kept_after = K.faults keeper.new;
-      files_before = T.faults tree.old;
-      files_after = T.faults tree.new;
-      out_before = O.faults out.old;
-      out_after = O.faults out.new;
-    }) result }
+        (around K.store T.files O.written keeper.old keeper.new tree.old tree.new out.old out.new) result }
+    ensures cause { EndCause (retries_in (Some command.now)) (around K.faults T.faults O.faults keeper.old keeper.new tree.old tree.new out.old out.new) result }
     ensures no_usage { result ≢ Err TopFault.Usage }
 {
     match command {
@@ -71,22 +56,8 @@ fn obey<K: Keeper, T: Tree, O: Sink>(
     out: &mut O,
 ) -> Result<(), TopFault>
     ensures ends { K.tells → T.tells → Ends (answer_of (map string_bytes words.now) (K.store keeper.old) (T.files tree.old))
-        (record {
-          before = K.store keeper.old;
-          after = K.store keeper.new;
-          files_before = T.files tree.old;
-          files_after = T.files tree.new;
-          out_before = O.written out.old;
-          out_after = O.written out.new;
-        }) result }
-    ensures cause { EndCause (retries_in (command_of (map string_bytes words.now))) (record {
-      kept_before = K.faults keeper.old;
-      kept_after = K.faults keeper.new;
-      files_before = T.faults tree.old;
-      files_after = T.faults tree.new;
-      out_before = O.faults out.old;
-      out_after = O.faults out.new;
-    }) result }
+        (around K.store T.files O.written keeper.old keeper.new tree.old tree.new out.old out.new) result }
+    ensures cause { EndCause (retries_in (command_of (map string_bytes words.now))) (around K.faults T.faults O.faults keeper.old keeper.new tree.old tree.new out.old out.new) result }
     ensures usage { result ≡ Err TopFault.Usage → command_of (map string_bytes words.now) ≡ None }
     ensures no_command { command_of (map string_bytes words.now) ≡ None → (result ≡ Err TopFault.Usage) ⊎ (result ≡ Err TopFault.Memory) }
 {
@@ -109,25 +80,11 @@ pub fn gg_top<K: Keeper, T: Tree, O: Sink, E: Sink>(
 ) -> Status
     // Where the keeper and the tree tell, all is as the answer by the definition has it, or a fault stopped it after a prefix.
     ensures exact { K.tells → T.tells → Comes (answer_of (map string_bytes words.now) (K.store keeper.old) (T.files tree.old))
-        (record {
-          before = K.store keeper.old;
-          after = K.store keeper.new;
-          files_before = T.files tree.old;
-          files_after = T.files tree.new;
-          out_before = O.written out.old;
-          out_after = O.written out.new;
-        }) result }
+        (around K.store T.files O.written keeper.old keeper.new tree.old tree.new out.old out.new) result }
     ensures said { K.tells → T.tells → Says (answer_of (map string_bytes words.now) (K.store keeper.old) (T.files tree.old)) result
         (E.written err.old) (E.written err.new) (E.faults err.old) (E.faults err.new) }
     // A fault comes only where a count rose, by more than the retries where calls are tried again, whatever is told.
-    ensures cause { TopCause (retries_in (command_of (map string_bytes words.now))) (record {
-      kept_before = K.faults keeper.old;
-      kept_after = K.faults keeper.new;
-      files_before = T.faults tree.old;
-      files_after = T.faults tree.new;
-      out_before = O.faults out.old;
-      out_after = O.faults out.new;
-    }) result }
+    ensures cause { TopCause (retries_in (command_of (map string_bytes words.now))) (around K.faults T.faults O.faults keeper.old keeper.new tree.old tree.new out.old out.new) result }
     // Words that are no command line, and no others, are a usage fault, unless memory runs out.
     ensures usage { result ≡ Status.Usage → command_of (map string_bytes words.now) ≡ None }
     ensures no_command { command_of (map string_bytes words.now) ≡ None → (result ≡ Status.Usage) ⊎ (result ≡ Status.Memory) }

@@ -2,8 +2,7 @@
 
 ghost use Rattle.std.specs.Prelude.{◌≡◌, All, Some, None, map, string_bytes, IfOk, IsErrOf};
 ghost use Rattle.file_tree.specs.Wanted.{IsItem};
-ghost use Rattle.gg_cli.specs.Words.{budget_of, retries_of, item_of, items_in, force_items, last_budget, last_retries, behind_budget, behind_retries, first_budget, first_retries, options_of, force_of, command_of};
-ghost use Rattle.gg_cli.specs.Commands.{IsCommand};
+ghost use Rattle.gg_cli.specs.Words.{budget_of, retries_of, item_of, items_in, no_options, filled, with_option, options_of, force_items, without_local, force_of, command_of, IsCommand};
 ghost use Rattle.gg_cli.specs.Reading.{Finds};
 
 use file_tree::Item;
@@ -38,12 +37,21 @@ pub enum Command {
     },
 }
 
+/// The options that are given: a slot for each.
+#[derive(Clone, Copy, Debug, PartialEq, Eq)]
+struct Options {
+    /// The greatest number of steps.
+    budget: Option<u32>,
+    /// How often a failed call is tried again.
+    retries: Option<u32>,
+}
+
 /// Why there is no command.
 #[derive(Clone, Copy, Debug, PartialEq, Eq)]
 pub enum WordFault {
     /// The words are no command line.
     Usage,
-    /// Memory was refused.
+    /// Memory ran out.
     Memory,
 }
 
@@ -124,14 +132,52 @@ fn read_each(alloc: Global, words: &[String]) -> Result<Many<Item>, WordFault>
     Ok(items)
 }
 
-/// The command that forces the items that some words are.
-fn read_items(
-    alloc: Global,
-    budget: u32,
-    retries: u32,
-    words: &[String],
-) -> Result<Command, WordFault>
-    ensures exact { Finds result (force_items budget retries (map string_bytes words.now)) }
+/// The number for a slot: none where the slot is full already.
+fn fill(slot: Option<u32>, number: Option<u32>) -> Option<u32>
+    ensures { result ≡ filled slot number }
+{
+    match slot {
+        Some(_) => None,
+        None => number,
+    }
+}
+
+/// The options with one more, where `word` names an option whose slot is empty and `value` is a number for it.
+fn with_option(given: Options, word: &[u8], value: &[u8]) -> Option<Options>
+    ensures { result ≡ with_option given word.now value.now }
+{
+    if word == b"--budget".as_slice() {
+        let budget = Some(fill(given.budget, read_budget(value))?);
+        return Some(Options { budget, ..given });
+    }
+    if word == b"--retries".as_slice() {
+        let retries = Some(fill(given.retries, read_retries(value))?);
+        return Some(Options { retries, ..given });
+    }
+    None
+}
+
+/// The options that some words begin with, and the words after them.
+fn read_options(words: &[String]) -> (Options, &[String])
+    ensures { (result.0, map string_bytes result.1.now) ≡ options_of no_options (map string_bytes words.now) }
+{
+    let mut given = Options {
+        budget: None,
+        retries: None,
+    };
+    let mut rest = words;
+    'options: while let [word, value, after @ ..] = rest
+        && let Some(more) = with_option(given, word.as_bytes(), value.as_bytes())
+    {
+        given = more;
+        rest = after;
+    }
+    (given, rest)
+}
+
+/// The command that forces the items that some words are, with these options.
+fn read_items(alloc: Global, given: Options, words: &[String]) -> Result<Command, WordFault>
+    ensures exact { Finds result (force_items given (map string_bytes words.now)) }
     ensures rules { IfOk result (λ command. IsCommand command) }
 {
     if words.is_empty() {
@@ -142,111 +188,20 @@ fn read_items(
     }
     let items = read_each(alloc, words)?;
     Ok(Command::Force {
-        budget,
-        retries,
+        budget: given.budget.unwrap_or(DEFAULT_BUDGET),
+        retries: given.retries.unwrap_or(DEFAULT_RETRIES),
         items,
     })
 }
 
-/// The command by what follows `--budget`, where retries were given.
-fn read_last_budget(alloc: Global, retries: u32, words: &[String]) -> Result<Command, WordFault>
-    ensures exact { Finds result (last_budget retries (map string_bytes words.now)) }
-    ensures rules { IfOk result (λ command. IsCommand command) }
+/// The words, but for a `--local` that they begin with.
+fn skip_local(words: &[String]) -> &[String]
+    ensures { map string_bytes result.now ≡ without_local (map string_bytes words.now) }
 {
-    let Some((word, others)) = words.split_first() else {
-        return Err(WordFault::Usage);
-    };
-    let Some(budget) = read_budget(word.as_bytes()) else {
-        return Err(WordFault::Usage);
-    };
-    read_items(alloc, budget, retries, others)
-}
-
-/// The command by what follows `--retries`, where a budget was given.
-fn read_last_retries(alloc: Global, budget: u32, words: &[String]) -> Result<Command, WordFault>
-    ensures exact { Finds result (last_retries budget (map string_bytes words.now)) }
-    ensures rules { IfOk result (λ command. IsCommand command) }
-{
-    let Some((word, others)) = words.split_first() else {
-        return Err(WordFault::Usage);
-    };
-    let Some(retries) = read_retries(word.as_bytes()) else {
-        return Err(WordFault::Usage);
-    };
-    read_items(alloc, budget, retries, others)
-}
-
-/// The command by what follows a budget.
-fn read_behind_budget(alloc: Global, budget: u32, words: &[String]) -> Result<Command, WordFault>
-    ensures exact { Finds result (behind_budget budget (map string_bytes words.now)) }
-    ensures rules { IfOk result (λ command. IsCommand command) }
-{
-    let Some((first, others)) = words.split_first() else {
-        return Err(WordFault::Usage);
-    };
-    if first.as_bytes() == b"--retries".as_slice() {
-        return read_last_retries(alloc, budget, others);
+    match words.split_first() {
+        Some((first, others)) if first.as_bytes() == b"--local".as_slice() => others,
+        _ => words,
     }
-    read_items(alloc, budget, DEFAULT_RETRIES, words)
-}
-
-/// The command by what follows retries.
-fn read_behind_retries(alloc: Global, retries: u32, words: &[String]) -> Result<Command, WordFault>
-    ensures exact { Finds result (behind_retries retries (map string_bytes words.now)) }
-    ensures rules { IfOk result (λ command. IsCommand command) }
-{
-    let Some((first, others)) = words.split_first() else {
-        return Err(WordFault::Usage);
-    };
-    if first.as_bytes() == b"--budget".as_slice() {
-        return read_last_budget(alloc, retries, others);
-    }
-    read_items(alloc, DEFAULT_BUDGET, retries, words)
-}
-
-/// The command by what follows `--budget`, the first option.
-fn read_first_budget(alloc: Global, words: &[String]) -> Result<Command, WordFault>
-    ensures exact { Finds result (first_budget (map string_bytes words.now)) }
-    ensures rules { IfOk result (λ command. IsCommand command) }
-{
-    let Some((word, others)) = words.split_first() else {
-        return Err(WordFault::Usage);
-    };
-    let Some(budget) = read_budget(word.as_bytes()) else {
-        return Err(WordFault::Usage);
-    };
-    read_behind_budget(alloc, budget, others)
-}
-
-/// The command by what follows `--retries`, the first option.
-fn read_first_retries(alloc: Global, words: &[String]) -> Result<Command, WordFault>
-    ensures exact { Finds result (first_retries (map string_bytes words.now)) }
-    ensures rules { IfOk result (λ command. IsCommand command) }
-{
-    let Some((word, others)) = words.split_first() else {
-        return Err(WordFault::Usage);
-    };
-    let Some(retries) = read_retries(word.as_bytes()) else {
-        return Err(WordFault::Usage);
-    };
-    read_behind_retries(alloc, retries, others)
-}
-
-/// The command by options and items.
-fn read_options(alloc: Global, words: &[String]) -> Result<Command, WordFault>
-    ensures exact { Finds result (options_of (map string_bytes words.now)) }
-    ensures rules { IfOk result (λ command. IsCommand command) }
-{
-    let Some((first, others)) = words.split_first() else {
-        return Err(WordFault::Usage);
-    };
-    if first.as_bytes() == b"--budget".as_slice() {
-        return read_first_budget(alloc, others);
-    }
-    if first.as_bytes() == b"--retries".as_slice() {
-        return read_first_retries(alloc, others);
-    }
-    read_items(alloc, DEFAULT_BUDGET, DEFAULT_RETRIES, words)
 }
 
 /// The command by what follows `force`.
@@ -254,13 +209,8 @@ fn read_force(alloc: Global, words: &[String]) -> Result<Command, WordFault>
     ensures exact { Finds result (force_of (map string_bytes words.now)) }
     ensures rules { IfOk result (λ command. IsCommand command) }
 {
-    let Some((first, others)) = words.split_first() else {
-        return Err(WordFault::Usage);
-    };
-    if first.as_bytes() == b"--local".as_slice() {
-        return read_options(alloc, others);
-    }
-    read_options(alloc, words)
+    let (given, items) = read_options(skip_local(words));
+    read_items(alloc, given, items)
 }
 
 /// The command that some words are.

@@ -1,4 +1,4 @@
-use Rattle.gg_cli.proofs.TopLemmas.{top_comes, top_says}
+use Rattle.gg_cli.proofs.LinesFitTheStatus.{top_comes, top_says}
 use Rattle.gg_cli.proofs.top.gg_top.Goals as goal
 
 pub returns-in-Err-clause-exact : goal.returns-in-Err-clause-exact

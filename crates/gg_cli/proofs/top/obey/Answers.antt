@@ -1,5 +1,5 @@
 use Rattle.std.proofs.Common.{ap, Err}
-use Rattle.gg_cli.proofs.TopLemmas.{answer_of-found, usage_ends}
+use Rattle.gg_cli.proofs.LinesFitTheStatus.{answer_of-found, usage_ends}
 use Rattle.gg_cli.proofs.top.obey.Goals as goal
 
 pub returns-in-Ok-clause-ends : goal.returns-in-Ok-clause-ends

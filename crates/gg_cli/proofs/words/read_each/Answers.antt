@@ -1,7 +1,7 @@
 use Rattle.std.proofs.Common.{string_bytes}
 use Rattle.std.proofs.lemmas.List.Elements.{All-push}
 use Rattle.file_tree.specs.Wanted.{IsItem}
-use Rattle.gg_cli.proofs.WordLemmas.{ReadsItems-more, ReadsItems-refused, ReadsItems-all}
+use Rattle.gg_cli.proofs.WordsAreReadInOrder.{ReadsItems-more, ReadsItems-refused, ReadsItems-all}
 use Rattle.gg_cli.proofs.words.read_each.Goals as goal
 
 pub returns-in_err-item-clause-exact : goal.returns-in_err-item-clause-exact

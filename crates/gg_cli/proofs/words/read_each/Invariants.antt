@@ -1,6 +1,6 @@
 use Rattle.std.proofs.Common.{All, drop, map, string_bytes}
 use Rattle.file_tree.specs.Wanted.{IsItem}
-use Rattle.gg_cli.proofs.WordLemmas.{ReadsItems}
+use Rattle.gg_cli.proofs.WordsAreReadInOrder.{ReadsItems}
 use Rattle.gg_cli.proofs.words.read_each.Given as goal
 
 abbrev pub invariant-words : goal.invariant-words

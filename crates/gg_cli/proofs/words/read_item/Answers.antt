@@ -1,5 +1,5 @@
 use Rattle.std.proofs.Common.{sym, ◌∙◌}
-use Rattle.gg_cli.proofs.WordLemmas.{item_of-option, item_of-ref, item_of-path, item_of-none}
+use Rattle.gg_cli.proofs.WordsAreReadInOrder.{item_of-option, item_of-ref, item_of-path, item_of-none}
 use Rattle.gg_cli.proofs.words.read_item.Goals as goal
 
 pub returns-then-starts_with-clause-exact : goal.returns-then-starts_with-clause-exact

@@ -1,7 +1,0 @@
-use Rattle.gg_cli.proofs.FilingLemmas.{IsFiling}
-use Rattle.gg_cli.proofs.filing.write_files.Given as goal
-
-abbrev pub invariant-values : goal.invariant-values
-invariant-values g l =
-    IsFiling g.K.Keeper.tells g.T.Tree.tells g.K.Keeper.store g.T.Tree.files g.K.Keeper.faults g.T.Tree.faults
-    l.names l.name-iterator.a.rest.now l.items l.name-iterator.b.rest.now l.initial.keeper l.keeper l.initial.tree l.tree
