@@ -7,7 +7,7 @@ use Rattle.std.proofs.lemmas.List.{length_push}
 use Rattle.std.proofs.lemmas.List.Folds.{list_any-append}
 use Rattle.std.proofs.lemmas.Slice.Eq.{bytes_eq-Decides}
 use Rattle.object_name.specs.Name.{max_size}
-use Rattle.thunk_codec.proofs.Paths.{bytes_eq-self}
+use Rattle.thunk_codec.proofs.PublicLaws.{bytes_eq-self}
 use Rattle.thunk_codec.specs.Placeholder.{placeholder_of}
 use Rattle.file_tree.specs.declared.refusal.FileRefusal.TheVariants as refusals
 use Rattle.file_tree.specs.declared.tree.FileRead.TheVariants as reads

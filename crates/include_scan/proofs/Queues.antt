@@ -7,7 +7,7 @@ use Rattle.std.proofs.lemmas.Bool.{false≢true, le-ltb, lt-ltb, leb-true}
 use Rattle.std.proofs.lemmas.List.{length_push, length-map, length-drop, map-append, drop-append-le, drop_more, take-append-drop}
 use Rattle.std.proofs.lemmas.List.Folds.{list_any-append}
 use Rattle.object_name.specs.Name.{max_size}
-use Rattle.thunk_codec.proofs.Paths.{bytes_eq-self}
+use Rattle.thunk_codec.proofs.PublicLaws.{bytes_eq-self}
 use Rattle.file_tree.specs.Files.{file_read}
 use Rattle.file_tree.specs.declared.tree.FileRead.{FileRead}
 use Rattle.file_tree.specs.declared.tree.FileRead.TheVariants as reads

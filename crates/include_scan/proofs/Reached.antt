@@ -7,7 +7,7 @@ use Rattle.std.proofs.lemmas.List.{get_or_append_left, take_more, take-append-le
 use Rattle.std.proofs.lemmas.List.Elements.{Contains-append_cases, Contains-append_left, Contains-append_right, Contains-push_cases}
 use Rattle.std.proofs.lemmas.List.Folds.{list_any_at}
 use Rattle.std.proofs.Math.Seq.{drop-cons}
-use Rattle.thunk_codec.proofs.Paths.{bytes_eq-self}
+use Rattle.thunk_codec.proofs.PublicLaws.{bytes_eq-self}
 use Rattle.text_lines.specs.Lines.{lines_of}
 use Rattle.tool_text.specs.Directive.{Directive, Text, Empty, Include, Define, Undef, Ifdef, Ifndef, If, Else, Endif, Unknown, Target, directive_of}
 use Rattle.tool_text.specs.Including.{Files, candidates, first_there}

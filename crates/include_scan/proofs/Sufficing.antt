@@ -5,7 +5,7 @@ use Rattle.std.specs.Option.{is_some}
 use Rattle.std.proofs.lemmas.Bool.{false≢true}
 use Rattle.std.proofs.lemmas.Slice.Eq.{bytes_eq-Decides}
 use Rattle.std.proofs.Math.Path.{fun_ext}
-use Rattle.thunk_codec.proofs.Paths.{bytes_eq-self}
+use Rattle.thunk_codec.proofs.PublicLaws.{bytes_eq-self}
 use Rattle.thunk_codec.specs.Job.{input_at}
 use Rattle.tool_text.specs.Including.{Files}
 use Rattle.tool_text.specs.Preprocess.{preprocessed}

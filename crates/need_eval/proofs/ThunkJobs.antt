@@ -10,7 +10,7 @@ use Rattle.thunk_codec.specs.declared.reference.Ref.{Ref}
 use Rattle.thunk_codec.specs.Thunk.{Parts}
 use Rattle.thunk_codec.specs.Resolved.{refs_of}
 use Rattle.thunk_codec.specs.Job.{ref_name, job_size, size_by_lengths, resolved_size}
-use Rattle.thunk_codec.proofs.Lengths.{job_size_by_lengths}
+use Rattle.thunk_codec.proofs.PublicLaws.{job_size_by_lengths}
 use Rattle.blob_store.specs.Store.{Contents, if_named, held}
 use Rattle.object_name.proofs.PublicLaws.{eq_by_cmp-name}
 use Rattle.need_eval.specs.declared.fault.Refusal.TheVariants.{Missing}

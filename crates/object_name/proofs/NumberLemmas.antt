@@ -110,7 +110,7 @@ digits_value-take text i = value_after-take 0 text i
 pub digits_value_more : (text : List ℕ) (i : ℕ) → i < length text → digits_value (take (i + 1) text) ≡ digits_value (take i text) * 10 + (get_or text i 0 - 48)
 digits_value_more text i below = fold_more (λ (before : ℕ) (digit : ℕ). before * 10 + (digit - 48)) 0 text i 0 below
 
--- a prefix that would be too great as it is, or with the next digit, is no front of a number below 2 ^ 64
+-- a prefix that would be too great as it is, or with the next digit, is no prefix of a number below 2 ^ 64
 pub too_great : (text : List ℕ) (i value high : ℕ) → i < length text → value ≡ digits_value (take i text) → high ≤ value * 10 + (get_or text i 0 - 48) → digits_value text < high → ⊥
 too_great text i value high below is over fits =
     let more = digits_value_more text i below in
@@ -134,7 +134,7 @@ digit_test_at [] i below digits = absurd (omega arith)
 digit_test_at (d ∷ ds) zero below digits = (and_parts (is_ascii_digit d) (all_ascii_digits ds) digits).0
 digit_test_at (d ∷ ds) (suc i) below digits = digit_test_at ds i (omega arith) (and_parts (is_ascii_digit d) (all_ascii_digits ds) digits).1
 
--- what reading digits answers is what reading a number answers, where no zero stands in front
+-- what reading digits answers is what reading a number answers, where no zero comes first
 pub number_from_digits : (text : List ℕ) (r : Option ℕ) → 0 < length text → (get_or text 0 0 ≡ 48 → length text ≡ 1) → IfSome r (λ n. IsTrue (all_ascii_digits text) × (n ≡ digits_value text))
     → (IsTrue (all_ascii_digits text) → digits_value text < 2 ^ 64 → r ≡ Some (digits_value text)) → IfSome r (λ n. n < 2 ^ 64) → r ≡ number_of text
 number_from_digits text None some canonical found only fits = none_numbered text (λ n small e.

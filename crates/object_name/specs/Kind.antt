@@ -1,5 +1,5 @@
 -- The two kinds of object: bytes that begin with `gg-thunk ` are a thunk, whoever wrote them, and all others a value.
-use Rattle.std.specs.Prelude.{ℕ, List, codes, nat_eq, if◌then◌else◌}
+use Rattle.std.specs.Prelude.{ℕ, List, Bool, true, false, codes, nat_eq, if◌then◌else◌}
 use Rattle.std.specs.List.{starts_with}
 use Rattle.object_name.specs.declared.kind.Kind.{Kind}
 use Rattle.object_name.specs.declared.kind.Kind.TheVariants.{Value, Thunk}
@@ -8,9 +8,18 @@ use Rattle.object_name.specs.declared.kind.Kind.TheVariants.{Value, Thunk}
 abbrev pub thunk_mark : List ℕ
 thunk_mark = codes "gg-thunk "
 
+-- the most outputs of a thunk
+abbrev pub max_outputs : ℕ
+max_outputs = 64
+
 -- the kind of some bytes
 abbrev pub kind_of : List ℕ → Kind
 kind_of bytes = if starts_with nat_eq bytes thunk_mark then Thunk else Value
+
+-- whether a kind is that of thunks
+abbrev pub is_thunk_kind : Kind → Bool
+is_thunk_kind Value = false
+is_thunk_kind Thunk = true
 
 -- values stand before thunks
 abbrev pub rank_of_kind : Kind → ℕ

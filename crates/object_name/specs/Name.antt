@@ -17,6 +17,10 @@ use Rattle.object_name.specs.Kind.{kind_of, rank_of_kind, letter_of_kind}
 abbrev pub max_size : ℕ
 max_size = 16777216
 
+-- how many characters spell a name
+abbrev pub spelling_len : ℕ
+spelling_len = 52
+
 -- what a name says of the bytes that it names
 pub record ObjectName : Type 0 where
   pub kind : Kind

@@ -3,6 +3,9 @@
 ghost use Rattle.std.specs.Prelude.{◌≡◌, Some, IfSome};
 ghost use Rattle.object_name.specs.Kind.{kind_of, letter_of_kind, rank_of_kind};
 
+/// The most outputs of a thunk.
+pub const MAX_OUTPUTS: usize = 64;
+
 /// What an object is: bytes as they are, or a thunk that can be reduced.
 #[derive(Clone, Copy, Debug, PartialEq, Eq, Hash)]
 pub enum Kind {
@@ -34,7 +37,7 @@ impl Kind {
         }
     }
 
-    /// The place of the kind in the order of names.
+    /// The rank of the kind in the order of names.
     pub(crate) fn rank(self) -> u8
         ensures { result ≡ rank_of_kind self }
     {

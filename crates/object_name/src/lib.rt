@@ -23,11 +23,11 @@ mod write_sink;
 
 pub use bytes::Bytes;
 pub use calls::Calls;
-pub use kind::{Kind, kind_of};
+pub use kind::{Kind, MAX_OUTPUTS, kind_of};
 pub use many::Many;
 pub use mem_sink::MemSink;
 pub use mem_source::MemSource;
-pub use name::{MAX_SIZE, Name, TooLong, name_of};
+pub use name::{MAX_SIZE, Name, SPELLING_LEN, TooLong, name_of};
 pub use number::{read_number, write_number};
 pub use read_source::ReadSource;
 pub use sink::{Sink, write_all};

@@ -17,7 +17,7 @@ use std::marker::Model;
 pub const MAX_SIZE: u32 = 16_777_216;
 
 /// How many characters spell a name.
-const SPELLING: usize = 52;
+pub const SPELLING_LEN: usize = 52;
 
 /// Where the size stands in a spelling, after the letter and the digest.
 const SIZE_AT: usize = 44;
@@ -122,7 +122,7 @@ impl Name {
         ensures only { (n : ObjectName) → IsName n → text.now ≡ spelling n → result ≡ Some n }
         ensures exact { result ≡ named_by text.now }
     {
-        if text.len() != SPELLING {
+        if text.len() != SPELLING_LEN {
             return None;
         }
         let kind = Kind::of_letter(text[0])?;
@@ -132,7 +132,7 @@ impl Name {
     }
 
     /// Writes the spelling.
-    pub fn spell(&self, into: &mut [u8; 52])
+    pub fn spell(&self, into: &mut [u8; SPELLING_LEN])
         ensures spelled { into.new ≡ spelling self.now }
         ensures name { IsName self.now }
     {

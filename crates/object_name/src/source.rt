@@ -79,7 +79,7 @@ fn wanted(room: usize) -> usize
 }
 
 /// Reads to the end of input. Where more than `limit` bytes are left, one byte past it is read. After another refusal a
-/// front of what was left is read.
+/// prefix of what was left is read.
 pub fn read_all<S: Source>(alloc: Global, source: &mut S, limit: usize) -> Result<Bytes, ReadEnd>
     ensures whole { IfOk result (λ bytes. IfSome (S.left source.old) (λ all. bytes ≡ all)) }
     ensures end { OnOk result (IsAtEnd (S.left source.new)) }

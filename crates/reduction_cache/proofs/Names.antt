@@ -13,7 +13,7 @@ use Rattle.object_name.specs.Name.{ObjectName, IsName, spelling, named_by}
 use Rattle.object_name.proofs.PublicLaws.{HasParts-spelling, length-spelling, named_by-spelling, spelling-named_by}
 use Rattle.text_lines.specs.Maybe.{◌>>=◌, bind_some}
 use Rattle.text_lines.specs.Cuts.{strip_prefix}
-use Rattle.text_lines.proofs.CutLemmas.{strip_prefix_takes}
+use Rattle.text_lines.proofs.PublicLaws.{strip_prefix_takes}
 use Rattle.reduction_cache.specs.Note.{name_line, note_end}
 use Rattle.reduction_cache.specs.Reading.{name_at, names_at}
 

@@ -11,7 +11,7 @@ use Rattle.object_name.specs.Kind.{letter_of_kind}
 use Rattle.object_name.specs.declared.kind.Kind.TheVariants.{Value, Thunk}
 use Rattle.text_lines.specs.Maybe.{◌>>=◌, bind_some, test_some}
 use Rattle.text_lines.specs.Cuts.{strip_prefix}
-use Rattle.text_lines.proofs.CutLemmas.{strip_prefix_takes}
+use Rattle.text_lines.proofs.PublicLaws.{strip_prefix_takes}
 use Rattle.reduction_cache.specs.Note.{NoteOf, IsNote, Note, note_text, name_line, note_head, note_end}
 use Rattle.reduction_cache.specs.Reading.{name_at, names_at, note_of}
 use Rattle.reduction_cache.proofs.Names.{name_takes, name_again, names_take, names_again}

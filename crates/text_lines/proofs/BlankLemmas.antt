@@ -1,4 +1,4 @@
--- Blanks and words by their places.
+-- Blanks and words by their indices.
 use Rattle.std.proofs.Common.{◌≡◌, ℕ, zero, suc, ◌<◌, ◌≤◌, ◌-◌, true, false, List, [], ◌∷◌, ◌++◌, length, take, drop, get_or, refl, sym, ap, ◌∙◌, arith, inl, inr}
 use Rattle.std.proofs.lemmas.Bool.{cases_Bool}
 use Rattle.std.proofs.lemmas.List.{take_rest}
@@ -17,10 +17,10 @@ skipped_prefix byte text blank = rw blank refl
 words_skip : (byte : ℕ) (text : List ℕ) → is_blank byte ≡ true → words_of (byte ∷ text) ≡ words_of text
 words_skip byte text blank = rw blank refl
 
-pub words_behind_blanks : (text : List ℕ) → words_of (skip_blanks text) ≡ words_of text
-words_behind_blanks [] = refl
-words_behind_blanks (byte ∷ text) = elim (cases_Bool (is_blank byte)) [
-  | inl blank ↦ ap words_of (skipped_prefix byte text blank) ∙ words_behind_blanks text ∙ sym (words_skip byte text blank)
+pub words_after_blanks : (text : List ℕ) → words_of (skip_blanks text) ≡ words_of text
+words_after_blanks [] = refl
+words_after_blanks (byte ∷ text) = elim (cases_Bool (is_blank byte)) [
+  | inl blank ↦ ap words_of (skipped_prefix byte text blank) ∙ words_after_blanks text ∙ sym (words_skip byte text blank)
   | inr other ↦ ap words_of (kept_prefix byte text other)
 ]
 
@@ -60,12 +60,12 @@ end_stops whole text before byte kept is other = is ∙ sym (with_last_other bef
 
 -- ---- words
 
--- no byte below a place is a blank
+-- no byte below an index is a blank
 abbrev pub NoBlankBelow : List ℕ → ℕ → Type 0
 NoBlankBelow text i = (k : ℕ) → k < i → is_blank (get_or text k 0) ≡ false
 
-no_blank_behind : (byte : ℕ) (text : List ℕ) (i : ℕ) → NoBlankBelow (byte ∷ text) (suc i) → NoBlankBelow text i
-no_blank_behind byte text i none = λ k below. none (suc k) (omega arith)
+no_blank_later : (byte : ℕ) (text : List ℕ) (i : ℕ) → NoBlankBelow (byte ∷ text) (suc i) → NoBlankBelow text i
+no_blank_later byte text i none = λ k below. none (suc k) (omega arith)
 
 word_goes_on : (byte other : ℕ) (text : List ℕ) → is_blank byte ≡ false → is_blank other ≡ false → words_of (byte ∷ other ∷ text) ≡ onto byte (words_of (other ∷ text))
 word_goes_on byte other text p q = rw (p, q) refl
@@ -77,7 +77,7 @@ word_cut (byte ∷ []) (suc i) some below blank none = absurd (omega arith)
 word_cut (byte ∷ other ∷ text) (suc zero) some below blank none = rw (none 0 (omega arith), blank) refl
 word_cut (byte ∷ other ∷ text) (suc (suc i)) some below blank none =
     word_goes_on byte other text (none 0 (omega arith)) (none 1 (omega arith))
-    ∙ ap (onto byte) (word_cut (other ∷ text) (suc i) (omega arith) (omega arith) blank (no_blank_behind byte (other ∷ text) (suc i) none))
+    ∙ ap (onto byte) (word_cut (other ∷ text) (suc i) (omega arith) (omega arith) blank (no_blank_later byte (other ∷ text) (suc i) none))
 
 true_is_false : true ≡ false → ⊥
 true_is_false e = absurd cc
@@ -97,18 +97,18 @@ only_word [] starts none = absurd cc
 only_word (byte ∷ []) starts none = rw starts refl
 only_word (byte ∷ other ∷ text) starts none =
     word_goes_on byte other text starts (none 1 (omega arith))
-    ∙ ap (onto byte) (only_word (other ∷ text) (none 1 (omega arith)) (no_blank_behind byte (other ∷ text) (length (other ∷ text)) none))
+    ∙ ap (onto byte) (only_word (other ∷ text) (none 1 (omega arith)) (no_blank_later byte (other ∷ text) (length (other ∷ text)) none))
 
--- ---- the first word behind the blanks at the beginning
+-- ---- the first word after the blanks at the beginning
 
 pub no_word : (line text : List ℕ) → text ≡ skip_blanks line → length text ≡ 0 → words_of line ≡ []
-no_word line [] is none = sym (words_behind_blanks line) ∙ ap words_of (sym is)
+no_word line [] is none = sym (words_after_blanks line) ∙ ap words_of (sym is)
 no_word line (byte ∷ text) is none = absurd (omega arith)
 
 pub begins_a_word : (line text : List ℕ) → text ≡ skip_blanks line → 0 < length text → at_blank text ≡ false
 begins_a_word line text is some = ap at_blank is ∙ at_word line (omega (arith, ap length is))
 
-pub word_behind_blanks : (line text word after : List ℕ) → text ≡ skip_blanks line → words_of text ≡ word ∷ words_of after → length after < length text
+pub word_after_blanks : (line text word after : List ℕ) → text ≡ skip_blanks line → words_of text ≡ word ∷ words_of after → length after < length text
     → (words_of line ≡ word ∷ words_of after) × (length after < length line)
-word_behind_blanks line text word after is cut shorter =
-    (sym (words_behind_blanks line) ∙ ap words_of (sym is) ∙ cut, omega (arith, ap length is, skipped_is_short line))
+word_after_blanks line text word after is cut shorter =
+    (sym (words_after_blanks line) ∙ ap words_of (sym is) ∙ cut, omega (arith, ap length is, skipped_is_short line))

@@ -8,20 +8,20 @@ use Rattle.std.proofs.lemmas.List.{take_at, drop_at, take-append-drop, length-ta
 use Rattle.std.proofs.lemmas.Option.{same_Some}
 use Rattle.std.proofs.lemmas.Slice.Eq.{bytes_eq-Decides, starts_is, ends_is}
 use Rattle.text_lines.specs.Maybe.{◌>>=◌, bind_some, test_some}
-use Rattle.text_lines.specs.Cuts.{strip_prefix, before_feed, with_byte, split_at_byte}
+use Rattle.text_lines.specs.Cuts.{strip_prefix, before_feed, has_no, with_byte, split_at_byte}
 
 -- ---- a prefix
 
-pub strip_prefix_takes : (mark bytes rest : List ℕ) → strip_prefix mark bytes ≡ Some rest → bytes ≡ mark ++ rest
-strip_prefix_takes mark bytes rest e =
-    let a = test_some (starts_with nat_eq bytes mark) (Some (drop (length mark) bytes)) rest e in
-    let prefix : mark ≡ take (length mark) bytes = (bytes_eq-Decides mark (take (length mark) bytes)).0 a.0 in
-    sym (take-append-drop (length mark) bytes) ∙ ap (λ (v : List ℕ). v ++ drop (length mark) bytes) (sym prefix) ∙ ap (λ (v : List ℕ). mark ++ v) (same_Some _ rest a.1)
+pub strip_prefix_takes : (prefix bytes rest : List ℕ) → strip_prefix prefix bytes ≡ Some rest → bytes ≡ prefix ++ rest
+strip_prefix_takes prefix bytes rest e =
+    let a = test_some (starts_with nat_eq bytes prefix) (Some (drop (length prefix) bytes)) rest e in
+    let begins : prefix ≡ take (length prefix) bytes = (bytes_eq-Decides prefix (take (length prefix) bytes)).0 a.0 in
+    sym (take-append-drop (length prefix) bytes) ∙ ap (λ (v : List ℕ). v ++ drop (length prefix) bytes) (sym begins) ∙ ap (λ (v : List ℕ). prefix ++ v) (same_Some _ rest a.1)
 
-pub strip_prefix_again : (mark rest : List ℕ) → strip_prefix mark (mark ++ rest) ≡ Some rest
-strip_prefix_again mark rest =
-    let starts : starts_with nat_eq (mark ++ rest) mark ≡ true = (starts_is Decides-eqb (mark ++ rest) mark _ refl).1 rest refl in
-    rw starts (ap (λ (v : List ℕ). Some v) (drop_at mark rest (length mark) refl))
+pub strip_prefix_again : (prefix rest : List ℕ) → strip_prefix prefix (prefix ++ rest) ≡ Some rest
+strip_prefix_again prefix rest =
+    let starts : starts_with nat_eq (prefix ++ rest) prefix ≡ true = (starts_is Decides-eqb (prefix ++ rest) prefix _ refl).1 rest refl in
+    rw starts (ap (λ (v : List ℕ). Some v) (drop_at prefix rest (length prefix) refl))
 
 -- ---- a line feed at the end
 
@@ -37,10 +37,6 @@ feed_again text =
     rw (ends, len, take_at text (10 ∷ []) (length text) refl) refl
 
 -- ---- up to a byte
-
--- no byte is the stop
-abbrev pub has_no : ℕ → List ℕ → Bool
-has_no stop text = list_all (λ byte. not (byte == stop)) text
 
 pub split_takes : (stop : ℕ) (bytes : List ℕ) (x : List ℕ × List ℕ) → split_at_byte stop bytes ≡ Some x → (bytes ≡ x.0 ++ stop ∷ x.1) × (has_no stop x.0 ≡ true)
 unfolding split_at_byte
@@ -74,7 +70,7 @@ pub has_no_from : (stop : ℕ) (text : List ℕ) → ((i : ℕ) → i < length t
 has_no_from stop [] h = refl
 has_no_from stop (byte ∷ text) h = and_from _ _ (not_from_false _ (ne_eqb byte stop (h 0 (omega arith)))) (has_no_from stop text (λ i lt. h (suc i) (omega (arith, lt))))
 
--- the first stop byte, by its place
+-- the first stop byte, by its index
 pub split_found : (stop : ℕ) (bytes : List ℕ) (i : ℕ) → i < length bytes → get_or bytes i 0 ≡ stop → ((k : ℕ) → k < i → get_or bytes k 0 ≡ stop → ⊥)
     → split_at_byte stop bytes ≡ Some (take i bytes, take (length bytes - (i + 1)) (drop (i + 1) bytes))
 split_found stop bytes i lt at before =

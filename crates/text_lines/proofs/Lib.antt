@@ -1,3 +1,5 @@
 pub mod CutLemmas
+pub mod ReadSoFar
 pub mod LineLemmas
 pub mod BlankLemmas
+pub mod PublicLaws

@@ -1,21 +1,21 @@
--- The first line by the place of the first line feed.
+-- The first line by the index of the first line feed.
 use Rattle.std.proofs.Common.{◌≡◌, ℕ, zero, suc, ◌<◌, ◌-◌, ◌+◌, List, [], ◌∷◌, length, take, drop, get_or, refl, sym, ap, ◌∙◌, add-one, arith}
 use Rattle.std.proofs.lemmas.Bool.{eq-eqb, ne_eqb}
 use Rattle.std.proofs.lemmas.List.{take_rest, length-take}
 use Rattle.text_lines.specs.Lines.{lines_of}
 
--- no byte below a place is a line feed
+-- no byte below an index is a line feed
 abbrev pub NoFeedBelow : List ℕ → ℕ → Type 0
 NoFeedBelow text i = (k : ℕ) → k < i → get_or text k 0 ≡ 10 → ⊥
 
-no_feed_behind : (byte : ℕ) (text : List ℕ) (i : ℕ) → NoFeedBelow (byte ∷ text) (suc i) → NoFeedBelow text i
-no_feed_behind byte text i none = λ k below. none (suc k) (omega arith)
+no_feed_later : (byte : ℕ) (text : List ℕ) (i : ℕ) → NoFeedBelow (byte ∷ text) (suc i) → NoFeedBelow text i
+no_feed_later byte text i none = λ k below. none (suc k) (omega arith)
 
 line_cut : (text : List ℕ) (i : ℕ) → i < length text → get_or text i 0 ≡ 10 → NoFeedBelow text i → lines_of text ≡ take i text ∷ lines_of (drop (suc i) text)
 line_cut [] i below feed none = absurd (omega arith)
 line_cut (byte ∷ text) zero below feed none = rw (eq-eqb byte 10 feed) refl
 line_cut (byte ∷ text) (suc i) below feed none =
-    rw (ne_eqb byte 10 (none 0 (omega arith)), line_cut text i (omega arith) feed (no_feed_behind byte text i none)) refl
+    rw (ne_eqb byte 10 (none 0 (omega arith)), line_cut text i (omega arith) feed (no_feed_later byte text i none)) refl
 
 rest_is_short : (text : List ℕ) (i : ℕ) → i < length text → length (take (length text - (i + 1)) (drop (i + 1) text)) < length text
 rest_is_short text i below = omega (arith, length-take (length text - (i + 1)) (drop (i + 1) text))
@@ -30,4 +30,4 @@ pub only_line : (text : List ℕ) → 0 < length text → NoFeedBelow text (leng
 only_line [] some none = absurd (omega arith)
 only_line (byte ∷ []) some none = rw (ne_eqb byte 10 (none 0 (omega arith))) refl
 only_line (byte ∷ other ∷ text) some none =
-    rw (ne_eqb byte 10 (none 0 (omega arith)), only_line (other ∷ text) (omega arith) (no_feed_behind byte (other ∷ text) (length (other ∷ text)) none)) refl
+    rw (ne_eqb byte 10 (none 0 (omega arith)), only_line (other ∷ text) (omega arith) (no_feed_later byte (other ∷ text) (length (other ∷ text)) none)) refl

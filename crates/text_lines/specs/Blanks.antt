@@ -11,7 +11,7 @@ abbrev pub at_blank : List ℕ → Bool
 at_blank [] = true
 at_blank (byte ∷ bytes) = is_blank byte
 
--- what stands behind the blanks at the beginning
+-- what comes after the blanks at the beginning
 abbrev pub skip_blanks : List ℕ → List ℕ
 skip_blanks [] = []
 skip_blanks (byte ∷ bytes) = if is_blank byte then skip_blanks bytes else byte ∷ bytes

@@ -10,7 +10,7 @@ pub fn is_blank(byte: u8) -> bool
     byte == b' ' || byte == b'\t'
 }
 
-/// What stands behind the blanks at the beginning.
+/// What comes after the blanks at the beginning.
 pub fn skip_blanks(text: &[u8]) -> &[u8]
     ensures { result.now ≡ skip_blanks text.now }
 {
@@ -45,7 +45,7 @@ pub fn trim_blanks(text: &[u8]) -> &[u8]
     without_end(skip_blanks(text))
 }
 
-/// The word at the beginning, and what stands behind it.
+/// The word at the beginning, and what comes after it.
 fn first_word(text: &[u8]) -> (&[u8], &[u8])
     requires { at_blank text.now ≡ false }
     ensures words { words_of text.now ≡ result.0.now ∷ words_of result.1.now }
@@ -59,7 +59,7 @@ fn first_word(text: &[u8]) -> (&[u8], &[u8])
     (text, &[])
 }
 
-/// The first word of a line, and what stands behind it. None where the line has no word.
+/// The first word of a line, and what comes after it. None where the line has no word.
 pub fn next_word(line: &[u8]) -> Option<(&[u8], &[u8])>
     ensures { MatchOption result (words_of line.now ≡ [])
         (λ cut. (words_of line.now ≡ cut.0.now ∷ words_of cut.1.now) × (length cut.1.now < length line.now)) }

@@ -3,6 +3,7 @@
 
 mod blanks;
 mod cuts;
+pub mod laws;
 mod line;
 
 pub use blanks::{is_blank, next_word, skip_blanks, trim_blanks};

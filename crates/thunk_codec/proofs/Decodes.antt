@@ -11,8 +11,8 @@ use Rattle.thunk_codec.specs.declared.decoding.DecodeFault.TheVariants.{BadThunk
 use Rattle.text_lines.specs.Maybe.{◌>>=◌, ◌>>◌}
 use Rattle.thunk_codec.specs.Gives.{Gives, Refuses, only_if}
 use Rattle.thunk_codec.specs.Raw.{HasRefs}
-use Rattle.thunk_codec.specs.Thunk.{Parts, Text, text_of}
-use Rattle.thunk_codec.specs.Reading.{parts_at, keeps_rules, thunk_of}
+use Rattle.thunk_codec.specs.Thunk.{Parts, Text, text_of, keeps_rules}
+use Rattle.thunk_codec.specs.Reading.{parts_at, thunk_of}
 use Rattle.thunk_codec.proofs.Texts.{parts_take}
 use Rattle.thunk_codec.proofs.Thunks.{thunk_of-text, text-thunk_of}
 
@@ -40,7 +40,7 @@ after_parts bytes rest t small e =
     let test : leb (length bytes) max_size ≡ true = le-leb _ _ small in
     rw (test, e) refl
 
--- nor are bytes with more behind the parts
+-- nor are bytes with more after the parts
 pub more_left : (bytes rest : List ℕ) (t : Parts) → length bytes ≤ max_size → parts_at bytes ≡ Some (t, rest) → (rest ≡ [] → ⊥) → thunk_of bytes ≡ None
 more_left bytes rest t small e some =
     let test : bytes_eq rest [] ≡ false = false_from_ne_true (bytes_eq rest []) (λ h. some ((bytes_eq-Decides rest []).0 h)) in

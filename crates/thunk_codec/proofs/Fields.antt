@@ -9,19 +9,19 @@ use Rattle.std.proofs.lemmas.Option.{same_Some}
 use Rattle.std.proofs.lemmas.Slice.Eq.{bytes_eq-Decides}
 use Rattle.object_name.specs.Number.{number_of}
 use Rattle.object_name.specs.Name.{spelling}
-use Rattle.object_name.proofs.NumberLemmas.{number_of-decimal, decimal-number_of, decimal_digit_at}
-use Rattle.object_name.proofs.SpellingBytes.{spelling_without_feed}
+use Rattle.object_name.proofs.PublicLaws.{number_of-decimal, decimal-number_of, decimal_digit_at}
+use Rattle.object_name.proofs.PublicLaws.{spelling_without_feed}
 use Rattle.thunk_codec.specs.declared.reference.Ref.{Ref}
 use Rattle.thunk_codec.specs.declared.reference.Ref.TheVariants.{Value, Out}
 use Rattle.text_lines.specs.Maybe.{◌>>=◌, ◌>>◌, bind_some, test_some}
 use Rattle.thunk_codec.specs.Reference.{IsRef, ref_text, ref_of}
 use Rattle.thunk_codec.specs.Thunk.{counted}
-use Rattle.text_lines.specs.Cuts.{strip_prefix, split_at_byte}
-use Rattle.text_lines.proofs.CutLemmas.{has_no, has_no_from, strip_prefix_takes, split_takes, split_again}
-use Rattle.thunk_codec.specs.Reading.{counted_at, ref_at, bytes_at, env_at, input_at}
+use Rattle.text_lines.specs.Cuts.{strip_prefix, has_no, split_at_byte}
+use Rattle.text_lines.proofs.PublicLaws.{has_no_from, strip_prefix_takes, split_takes, split_again}
+use Rattle.thunk_codec.specs.Reading.{counted_at, ref_at, bytes_at, env_at, input_line_at}
 use Rattle.thunk_codec.proofs.References.{ref_spelled, ref_again}
 
--- ---- bytes behind their number
+-- ---- bytes after their number
 
 pub counted_takes : (bytes : List ℕ) (x : List ℕ × List ℕ) → counted_at bytes ≡ Some x → bytes ≡ counted x.0 ++ x.1
 unfolding counted_at
@@ -124,8 +124,8 @@ env_reader = record { takes = λ bytes x e. (env_take bytes x e, tt); again = en
 abbrev pub input_said : List ℕ × Ref → List ℕ
 input_said input = counted input.0 ++ 32 ∷ ref_text input.1
 
-input_take : (bytes : List ℕ) (x : (List ℕ × Ref) × List ℕ) → input_at bytes ≡ Some x → (bytes ≡ input_said x.0 ++ 10 ∷ x.1) × IsRef x.0.1
-unfolding input_at
+input_take : (bytes : List ℕ) (x : (List ℕ × Ref) × List ℕ) → input_line_at bytes ≡ Some x → (bytes ≡ input_said x.0 ++ 10 ∷ x.1) × IsRef x.0.1
+unfolding input_line_at
 input_take bytes x e =
     let a = bind_some (counted_at bytes) (λ path. strip_prefix (32 ∷ []) path.1 >>= λ text. ref_at text >>= λ ref. Some ((path.0, ref.0), ref.1)) x e in
     let b = bind_some (strip_prefix (32 ∷ []) a.0.1) (λ text. ref_at text >>= λ ref. Some ((a.0.0, ref.0), ref.1)) x a.2 in
@@ -142,11 +142,11 @@ input_take bytes x e =
 abbrev pub IsInput : List ℕ × Ref → Type 0
 IsInput input = IsShort input.0 × IsRef input.1
 
-input_again : (input : List ℕ × Ref) (rest : List ℕ) → IsInput input → input_at (input_said input ++ 10 ∷ rest) ≡ Some (input, rest)
-unfolding input_at
+input_again : (input : List ℕ × Ref) (rest : List ℕ) → IsInput input → input_line_at (input_said input ++ 10 ∷ rest) ≡ Some (input, rest)
+unfolding input_line_at
 input_again input rest h =
     let regrouped : input_said input ++ 10 ∷ rest ≡ counted input.0 ++ 32 ∷ (ref_text input.1 ++ 10 ∷ rest) = append_assoc (counted input.0) (32 ∷ ref_text input.1) (10 ∷ rest) in
-    ap input_at regrouped ∙ rw (counted_again input.0 (32 ∷ (ref_text input.1 ++ 10 ∷ rest)) h.0, ref_at-again input.1 rest h.1) refl
+    ap input_line_at regrouped ∙ rw (counted_again input.0 (32 ∷ (ref_text input.1 ++ 10 ∷ rest)) h.0, ref_at-again input.1 rest h.1) refl
 
-pub input_reader : IsReader input_at input_said (λ input. IsRef input.1) IsInput
+pub input_reader : IsReader input_line_at input_said (λ input. IsRef input.1) IsInput
 input_reader = record { takes = input_take; again = input_again }

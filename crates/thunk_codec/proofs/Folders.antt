@@ -66,7 +66,7 @@ read_folder text path e short = read_folder_of text path (components_of text) re
 
 -- ---- the last slash
 
--- from a place on no byte is a slash
+-- from an index on no byte is a slash
 pub record NoSlashFrom (text : List ℕ) (start : ℕ) : Type 0 where
   pub within : start ≤ length text
   pub none : (k : ℕ) → start ≤ k → k < length text → get_or text k 0 ≡ 47 → ⊥
@@ -184,7 +184,7 @@ with_last path j = j.path_is ∙ joined-cons j.last j.before (and_parts (is_comp
 last_plain : (path : List ℕ) (j : IsJoined path) → is_plain j.last ≡ true
 last_plain path j = component_plain j.last (and_parts (is_component j.last) (list_all is_component j.before) j.good).0
 
--- the last component stands behind the last slash
+-- the last component comes after the last slash
 pub last_by_slash : (path : List ℕ) → is_path path ≡ true → after_last is_slash path ≡ last_of path
 last_by_slash path h =
     let j = path_parts path h in

@@ -104,7 +104,7 @@ found_sorted path inputs i input sorted below is equal =
     let same : (get_or inputs i input).0 ≡ path = exact_bytes _ _ (equal input) in
     (ap (λ (v : List ℕ × List ℕ). v.0) is ∙ same, found_at path inputs sorted i input below same ∙ ap (λ (v : List ℕ × List ℕ). Some v.1) (sym is))
 
--- neither before nor after the place
+-- neither before nor after the index
 not_equal : (order : Ordering) → order ≡ Less → order ≡ Equal → ⊥
 not_equal order less equal = absurd cc
 

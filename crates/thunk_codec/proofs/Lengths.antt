@@ -10,9 +10,10 @@ use Rattle.thunk_codec.specs.declared.job.Job.{Job}
 use Rattle.thunk_codec.specs.declared.reference.Ref.{Ref}
 use Rattle.thunk_codec.specs.declared.reference.Ref.TheVariants.{Value, Out}
 use Rattle.thunk_codec.specs.Reference.{IsRef}
+use Rattle.thunk_codec.proofs.RulesKept.{few_inputs}
 use Rattle.thunk_codec.specs.Thunk.{Parts, IsThunk, text_of, line, counted, arg_line, env_line, input_line, output_line}
 use Rattle.thunk_codec.specs.Resolved.{OfThunk, HaveObjectLengths}
-use Rattle.thunk_codec.specs.Job.{string, string_pair, job_encoding, job_size, size_by_lengths, resolved_size, ref_name}
+use Rattle.thunk_codec.specs.Job.{encoded_string, encoded_pair, job_encoding, job_size, size_by_lengths, resolved_size, ref_name}
 
 -- sums of terms that are equal one by one
 pub sum_by-same : {X : Type 0} (f g : X → ℕ) → ((x : X) → f x ≡ g x) → (xs : List X) → sum_by f xs ≡ sum_by g xs
@@ -24,17 +25,17 @@ pub sum_by-map : {X Y : Type 0} (f : Y → ℕ) (g : X → Y) (xs : List X) → 
 sum_by-map f g [] = refl
 sum_by-map f g (x ∷ xs) = omega (arith, sum_by-cons f (g x) (map g xs), sum_by-cons (λ x. f (g x)) x xs, sum_by-map f g xs)
 
-length-string : (bytes : List ℕ) → length (string bytes) ≡ 4 + length bytes
+length-string : (bytes : List ℕ) → length (encoded_string bytes) ≡ 4 + length bytes
 length-string bytes = omega (arith, length-append {A = ℕ})
 
-length-string_pair : (pair : List ℕ × List ℕ) → length (string_pair pair) ≡ 8 + length pair.0 + length pair.1
-length-string_pair pair = omega (arith, length-append (string pair.0) (string pair.1), length-string pair.0, length-string pair.1)
+length-string_pair : (pair : List ℕ × List ℕ) → length (encoded_pair pair) ≡ 8 + length pair.0 + length pair.1
+length-string_pair pair = omega (arith, length-append (encoded_string pair.0) (encoded_string pair.1), length-string pair.0, length-string pair.1)
 
-strings : (texts : List (List ℕ)) → length (flat_map string texts) ≡ sum_by (λ text. 4 + length text) texts
-strings texts = length-flat_map string texts ∙ sum_by-same (λ text. length (string text)) (λ text. 4 + length text) length-string texts
+strings : (texts : List (List ℕ)) → length (flat_map encoded_string texts) ≡ sum_by (λ text. 4 + length text) texts
+strings texts = length-flat_map encoded_string texts ∙ sum_by-same (λ text. length (encoded_string text)) (λ text. 4 + length text) length-string texts
 
-string_pairs : (pairs : List (List ℕ × List ℕ)) → length (flat_map string_pair pairs) ≡ sum_by (λ pair. 8 + length pair.0 + length pair.1) pairs
-string_pairs pairs = length-flat_map string_pair pairs ∙ sum_by-same (λ pair. length (string_pair pair)) (λ pair. 8 + length pair.0 + length pair.1) length-string_pair pairs
+string_pairs : (pairs : List (List ℕ × List ℕ)) → length (flat_map encoded_pair pairs) ≡ sum_by (λ pair. 8 + length pair.0 + length pair.1) pairs
+string_pairs pairs = length-flat_map encoded_pair pairs ∙ sum_by-same (λ pair. length (encoded_pair pair)) (λ pair. 8 + length pair.0 + length pair.1) length-string_pair pairs
 
 -- the length of a job's encoding, by lengths
 pub job_size_by_lengths : (j : Job) → job_size j ≡ size_by_lengths (length j.function) j.args j.envs (map (λ input. (input.0, length input.1)) j.inputs) j.outputs
@@ -106,7 +107,7 @@ thunk_is_small t rules =
       function = ref_size t.function rules.function;
       args = omega (arith, whole, line_args t.args);
       envs = omega (arith, whole, line_envs t.envs);
-      inputs = omega (arith, whole, line_inputs t.inputs rules.input_refs, rules.few_inputs);
+      inputs = omega (arith, whole, line_inputs t.inputs rules.input_refs, few_inputs t rules.rules);
       outputs = omega (arith, whole, line_outputs t.outputs);
     }
 
@@ -154,7 +155,7 @@ job_is_small args envs inputs outputs objects parts =
     record {
       small_args = subst (λ (v : List (List ℕ)). sum_by (λ arg. 4 + length arg) v < 2 ^ 36) parts.same_args (omega (arith, whole, line_args t.args));
       small_envs = subst (λ (v : List (List ℕ × List ℕ)). sum_by (λ env. 8 + length env.0 + length env.1) v < 2 ^ 36) parts.same_envs (omega (arith, whole, line_envs t.envs));
-      small_inputs = omega (arith, whole, path_sum inputs objects, paths, count, parts.rules.few_inputs);
+      small_inputs = omega (arith, whole, path_sum inputs objects, paths, count, few_inputs t parts.rules.rules);
       small_outputs = subst (λ (v : List (List ℕ)). sum_by (λ output. 4 + length output) v < 2 ^ 36) parts.same_outputs (omega (arith, whole, line_outputs t.outputs));
     }
 

@@ -1,11 +1,12 @@
+pub mod RulesKept
 pub mod Lengths
 pub mod Paths
 pub mod References
 pub mod Fields
 pub mod Texts
 pub mod Thunks
-pub mod Loops
-pub mod AsAre
+pub mod LinesReadSoFar
+pub mod CanonicalPaths
 pub mod Made
 pub mod Decodes
 pub mod Encodes
@@ -14,3 +15,4 @@ pub mod Makes
 pub mod Folders
 pub mod InputsFound
 pub mod Placeholders
+pub mod PublicLaws

@@ -9,54 +9,11 @@ use Rattle.thunk_codec.specs.declared.decoding.DecodeFault.TheVariants.{BadThunk
 use Rattle.thunk_codec.specs.declared.reference.Ref.{Ref}
 use Rattle.thunk_codec.specs.Gives.{Refuses, only_if}
 use Rattle.thunk_codec.specs.Path.{is_path}
-use Rattle.thunk_codec.specs.Thunk.{Parts, IsThunk, text_of, has_no_zero, is_identifier, is_strictly_increasing, are_distinct}
-use Rattle.thunk_codec.specs.Raw.{HasRefs, keeps_numbers, keeps_bytes, keeps_orders}
-use Rattle.thunk_codec.specs.Reading.{keeps_rules}
-use Rattle.thunk_codec.proofs.AsAre.{only_if_none, none_is_false}
+use Rattle.thunk_codec.specs.Thunk.{Parts, IsThunk, text_of, keeps_numbers, keeps_bytes, keeps_orders, keeps_rules}
+use Rattle.thunk_codec.specs.Raw.{HasRefs}
+use Rattle.thunk_codec.proofs.CanonicalPaths.{only_if_none, none_is_false}
+use Rattle.thunk_codec.proofs.RulesKept.{Keeps, rules_kept, kept_rules}
 use Rattle.thunk_codec.proofs.Thunks.{rules_from}
-
--- the rules, in the order in which the code looks at them
-pub record Keeps (t : Parts) : Type 0 where
-  pub numbers : keeps_numbers t ≡ true
-  pub bytes : keeps_bytes t ≡ true
-  pub orders : keeps_orders t ≡ true
-  pub inputs : list_all is_path (map (λ input. input.0) t.inputs) ≡ true
-  pub outputs : list_all is_path t.outputs ≡ true
-
-keys_of : (t : Parts) → list_all is_identifier (map (λ env. env.0) t.envs) ≡ list_all (λ env. is_identifier env.0) t.envs
-keys_of t = list_all-map is_identifier (λ (env : List ℕ × List ℕ). env.0) t.envs
-
-values_of : (t : Parts) → list_all has_no_zero (map (λ env. env.1) t.envs) ≡ list_all (λ env. has_no_zero env.1) t.envs
-values_of t = list_all-map has_no_zero (λ (env : List ℕ × List ℕ). env.1) t.envs
-
-pub rules_kept : (t : Parts) → keeps_rules t ≡ true → Keeps t
-rules_kept t h =
-    let a = and_parts (list_all has_no_zero t.args) _ h in
-    let b = and_parts (list_all is_identifier (map (λ env. env.0) t.envs)) _ a.1 in
-    let c = and_parts (list_all has_no_zero (map (λ env. env.1) t.envs)) _ b.1 in
-    let d = and_parts (is_strictly_increasing (map (λ env. env.0) t.envs)) _ c.1 in
-    let e = and_parts (list_all is_path (map (λ input. input.0) t.inputs)) _ d.1 in
-    let f = and_parts (is_strictly_increasing (map (λ input. input.0) t.inputs)) _ e.1 in
-    let g = and_parts (leb (length t.inputs) 4096) _ f.1 in
-    let i = and_parts (list_all is_path t.outputs) _ g.1 in
-    let j = and_parts (are_distinct t.outputs) _ i.1 in
-    record {
-      numbers = and_from _ _ g.0 j.1;
-      bytes = and_from _ _ a.0 (and_from _ _ (sym (keys_of t) ∙ b.0) (sym (values_of t) ∙ c.0));
-      orders = and_from _ _ d.0 (and_from _ _ f.0 j.0);
-      inputs = e.0;
-      outputs = i.0;
-    }
-
-pub kept_rules : (t : Parts) → Keeps t → keeps_rules t ≡ true
-kept_rules t h =
-    let numbers = and_parts (leb (length t.inputs) 4096) _ h.numbers in
-    let args = and_parts (list_all has_no_zero t.args) _ h.bytes in
-    let envs = and_parts (list_all (λ env. is_identifier env.0) t.envs) _ args.1 in
-    let orders = and_parts (is_strictly_increasing (map (λ env. env.0) t.envs)) _ h.orders in
-    let others = and_parts (is_strictly_increasing (map (λ input. input.0) t.inputs)) _ orders.1 in
-    and_from _ _ args.0 (and_from _ _ (keys_of t ∙ envs.0) (and_from _ _ (values_of t ∙ envs.1) (and_from _ _ orders.0 (and_from _ _ h.inputs (and_from _ _ others.0
-    (and_from _ _ numbers.0 (and_from _ _ h.outputs (and_from _ _ others.1 numbers.1))))))))
 
 -- a test that holds where the rules are kept, and doesn't hold
 pub not_kept : (t : Parts) (test : Bool) → (Keeps t → test ≡ true) → test ≡ false → only_if (keeps_rules t) t ≡ None

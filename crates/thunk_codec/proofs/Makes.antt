@@ -7,10 +7,9 @@ use Rattle.object_name.specs.Name.{max_size}
 use Rattle.thunk_codec.specs.declared.reference.Ref.{Ref}
 use Rattle.thunk_codec.specs.Path.{is_path}
 use Rattle.thunk_codec.specs.Reference.{IsRef}
-use Rattle.thunk_codec.specs.Raw.{keeps_numbers, keeps_bytes, keeps_orders}
-use Rattle.thunk_codec.specs.Thunk.{Parts, IsThunk, text_of}
-use Rattle.thunk_codec.proofs.Thunks.{rules_from, rules_test}
-use Rattle.thunk_codec.proofs.Made.{rules_kept, kept_rules}
+use Rattle.thunk_codec.specs.Thunk.{Parts, IsThunk, text_of, keeps_numbers, keeps_bytes, keeps_orders}
+use Rattle.thunk_codec.proofs.RulesKept.{rules_kept, kept_rules}
+use Rattle.thunk_codec.proofs.Thunks.{rules_from}
 
 unmapped_refs : (inputs : List (List ℕ × Ref)) → AllByRecursion IsRef (map (λ input. input.1) inputs) → AllByRecursion (λ input. IsRef input.1) inputs
 unmapped_refs [] h = tt
@@ -24,7 +23,7 @@ no_refs t test inputs is decides fails rules =
 
 -- nor where bytes aren't as they may be
 pub no_bytes : (t : Parts) → keeps_bytes t ≡ false → IsThunk t → ⊥
-no_bytes t fails rules = false≢true (sym fails ∙ (rules_kept t (rules_test t rules)).bytes)
+no_bytes t fails rules = false≢true (sym fails ∙ (rules_kept t rules.rules).bytes)
 
 -- parts that keep all rules are a thunk's
 pub are_thunk : (t : Parts) (text : List ℕ) → IsRef t.function → AllByRecursion (λ input. IsRef input.1) t.inputs → keeps_numbers t ≡ true → keeps_bytes t ≡ true → keeps_orders t ≡ true

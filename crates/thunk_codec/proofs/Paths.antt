@@ -160,7 +160,7 @@ bytes_eq-not xs ys h = not_from_Decides (bytes_eq xs ys) (bytes_eq-Decides xs ys
 pub bytes_eq-self : (xs : List ℕ) → bytes_eq xs xs ≡ true
 bytes_eq-self xs = (bytes_eq-Decides xs xs).1 refl
 
--- a path is read as it stands
+-- a canonical path is read as itself
 pub path_again : (text path : List ℕ) → path_of text ≡ Some path → path_of path ≡ Some path
 unfolding path_of
 path_again text path e =

@@ -14,7 +14,7 @@ use Rattle.thunk_codec.specs.Reference.{IsRef, ref_text, ref_of}
 use Rattle.text_lines.specs.Cuts.{strip_prefix, before_feed}
 use Rattle.thunk_codec.specs.Placeholder.{IsPlaceholder, output_of, placeholder_of}
 use Rattle.thunk_codec.proofs.References.{ref_spelled, ref_again}
-use Rattle.text_lines.proofs.CutLemmas.{strip_prefix_takes, strip_prefix_again, feed_takes, feed_again}
+use Rattle.text_lines.proofs.PublicLaws.{strip_prefix_takes, strip_prefix_again, feed_takes, feed_again}
 
 -- the first line
 abbrev first_line : List ℕ

@@ -6,14 +6,15 @@ use Rattle.std.proofs.lemmas.List.{take_at, drop_at, get_or_at, take-append-drop
 use Rattle.std.proofs.lemmas.Option.{same_Some}
 use Rattle.object_name.specs.declared.kind.Kind.{Kind}
 use Rattle.object_name.specs.declared.kind.Kind.TheVariants as kinds
+use Rattle.object_name.specs.Kind.{is_thunk_kind}
 use Rattle.object_name.specs.Number.{number_of}
 use Rattle.object_name.specs.Name.{spelling, named_by}
-use Rattle.object_name.proofs.NameLemmas.{length-spelling, named_by-spelling, spelling-named_by}
-use Rattle.object_name.proofs.NumberLemmas.{number_of-decimal, decimal-number_of}
+use Rattle.object_name.proofs.PublicLaws.{length-spelling, named_by-spelling, spelling-named_by}
+use Rattle.object_name.proofs.PublicLaws.{number_of-decimal, decimal-number_of}
 use Rattle.thunk_codec.specs.declared.reference.Ref.{Ref}
 use Rattle.thunk_codec.specs.declared.reference.Ref.TheVariants.{Value, Out}
 use Rattle.text_lines.specs.Maybe.{◌>>=◌, ◌>>◌, bind_some, test_some}
-use Rattle.thunk_codec.specs.Reference.{IsRef, ref_text, is_thunk_kind, value_ref_of, out_ref_of, ref_of}
+use Rattle.thunk_codec.specs.Reference.{IsRef, ref_text, value_ref_of, out_ref_of, ref_of}
 
 value_kind : (kind : Kind) → is_thunk_kind kind ≡ false → kind ≡ kinds.Value
 value_kind kinds.Value e = refl

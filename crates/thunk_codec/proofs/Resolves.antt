@@ -1,16 +1,16 @@
 -- Thunks with values in place of their REFs are thunks.
-use Rattle.std.proofs.Common.{◌≡◌, ℕ, zero, suc, ◌+◌, ◌<◌, ◌≤◌, List, [], ◌∷◌, ◌++◌, length, map, take, drop, get_or, ◌-◌, refl, sym, ap, subst, ◌∙◌, arith, length-append}
+use Rattle.std.proofs.Common.{◌≡◌, Bool, true, ℕ, zero, suc, ◌+◌, ◌<◌, ◌≤◌, List, [], ◌∷◌, ◌++◌, length, map, take, drop, get_or, ◌-◌, refl, sym, ap, subst, ◌∙◌, arith, length-append}
 use Rattle.std.specs.Prelude.{IsTrue, decimal}
 use Rattle.std.specs.List.{flat_map, list_all, AllByRecursion}
 use Rattle.std.proofs.lemmas.List.{length-map, take_all}
 use Rattle.std.proofs.lemmas.List.Concat.{flat_map-cons}
 use Rattle.object_name.specs.Name.{ObjectName, IsName, spelling}
-use Rattle.object_name.proofs.NameLemmas.{length-spelling}
+use Rattle.object_name.proofs.PublicLaws.{length-spelling}
 use Rattle.thunk_codec.specs.declared.reference.Ref.{Ref}
 use Rattle.thunk_codec.specs.declared.reference.Ref.TheVariants.{Value, Out}
 use Rattle.thunk_codec.specs.Path.{is_path}
 use Rattle.thunk_codec.specs.Reference.{IsRef, ref_text}
-use Rattle.thunk_codec.specs.Thunk.{Parts, IsThunk, text_of, head_line, end_line, counted, function_line, arg_line, env_line, input_line, output_line, is_strictly_increasing}
+use Rattle.thunk_codec.specs.Thunk.{Parts, IsThunk, text_of, head_line, end_line, counted, function_line, arg_line, env_line, input_line, output_line, keeps_rules}
 use Rattle.thunk_codec.specs.Resolved.{refs_of, with_values, resolved_by, AreNames, HaveValueKind}
 
 with_one-more : (inputs : List (List ℕ × Ref)) (values : List ObjectName) (i : ℕ) (d : List ℕ × Ref) (e : ObjectName) → i < length inputs → i < length values
@@ -91,25 +91,18 @@ resolved_size-less t value values rules name names =
       with_values-size t.inputs values rules.input_refs names,
     )
 
+-- the rules are on the paths of the inputs, and not on what stands there
+with_values-rules : (t : Parts) (values : List ObjectName) → keeps_rules (record t { inputs = with_values t.inputs values }) ≡ keeps_rules t
+with_values-rules t values = rw (with_values-paths t.inputs values, with_values-count t.inputs values) refl
+
 -- a thunk with values in place of REFs is a thunk
 pub resolved_is_thunk : (t : Parts) (values : List ObjectName) → IsThunk t → AreNames values → HaveValueKind values → IsThunk (resolved_by t values)
 resolved_is_thunk t [] rules names kinds = rules
 resolved_is_thunk t (value ∷ values) rules names kinds =
-    let paths = sym (with_values-paths t.inputs values) in
     record {
       function = (names.0, kinds.0);
-      args = rules.args;
-      keys = rules.keys;
-      env_values = rules.env_values;
-      keys_rise = rules.keys_rise;
       input_refs = with_values-refs t.inputs values rules.input_refs names.1 kinds.1;
-      input_paths = subst (λ (v : List (List ℕ)). IsTrue (list_all is_path v)) paths rules.input_paths;
-      paths_rise = subst (λ (v : List (List ℕ)). IsTrue (is_strictly_increasing v)) paths rules.paths_rise;
-      few_inputs = omega (arith, rules.few_inputs, with_values-count t.inputs values);
-      output_paths = rules.output_paths;
-      outputs_differ = rules.outputs_differ;
-      some_output = rules.some_output;
-      few_outputs = rules.few_outputs;
+      rules = subst (λ (v : Bool). v ≡ true) (sym (with_values-rules t values)) rules.rules;
       size = omega (arith, rules.size, resolved_size-less t value values rules names.0 names.1);
     }
 

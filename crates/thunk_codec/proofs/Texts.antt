@@ -13,8 +13,8 @@ use Rattle.thunk_codec.specs.Reference.{IsRef, ref_text}
 use Rattle.thunk_codec.specs.Thunk.{Parts, line, counted, head_line, end_line, function_line, arg_line, env_line, input_line, output_line, text_of}
 use Rattle.thunk_codec.specs.Raw.{HasRefs}
 use Rattle.text_lines.specs.Cuts.{strip_prefix}
-use Rattle.text_lines.proofs.CutLemmas.{strip_prefix_takes}
-use Rattle.thunk_codec.specs.Reading.{ref_at, bytes_at, env_at, input_at, lines_at, all_lines_at, parts_at}
+use Rattle.text_lines.proofs.PublicLaws.{strip_prefix_takes}
+use Rattle.thunk_codec.specs.Reading.{ref_at, bytes_at, env_at, input_line_at, lines_at, all_lines_at, parts_at}
 use Rattle.thunk_codec.proofs.Fields.{IsReader, IsShort, IsPair, IsInput, env_said, input_said, ref_takes, ref_at-again, bytes_reader, env_reader, input_reader}
 
 -- lines of a letter
@@ -95,18 +95,18 @@ begins_after letter other said (x ∷ xs) rest ne h = rw ne refl
 
 -- ---- all parts
 
--- the text behind the function's line
-abbrev pub behind_function : Parts → List ℕ → List ℕ
-behind_function t rest = flat_map arg_line t.args ++ (flat_map env_line t.envs ++ (flat_map input_line t.inputs ++ (flat_map output_line t.outputs ++ (end_line ++ rest))))
+-- the text after the function's line
+abbrev pub after_function : Parts → List ℕ → List ℕ
+after_function t rest = flat_map arg_line t.args ++ (flat_map env_line t.envs ++ (flat_map input_line t.inputs ++ (flat_map output_line t.outputs ++ (end_line ++ rest))))
 
 regroup : (h f a e i o x r : List ℕ) → (h ++ (f ++ (a ++ (e ++ (i ++ (o ++ x)))))) ++ r ≡ h ++ (f ++ (a ++ (e ++ (i ++ (o ++ (x ++ r))))))
 regroup h f a e i o x r = simp append_assoc
 
-text_before : (t : Parts) (rest : List ℕ) → text_of t ++ rest ≡ head_line ++ (102 ∷ 32 ∷ (ref_text t.function ++ 10 ∷ behind_function t rest))
+text_before : (t : Parts) (rest : List ℕ) → text_of t ++ rest ≡ head_line ++ (102 ∷ 32 ∷ (ref_text t.function ++ 10 ∷ after_function t rest))
 unfolding text_of
 text_before t rest =
     regroup head_line (function_line t.function) (flat_map arg_line t.args) (flat_map env_line t.envs) (flat_map input_line t.inputs) (flat_map output_line t.outputs) end_line rest
-    ∙ ap (λ (v : List ℕ). head_line ++ v) (line_before 102 (ref_text t.function) (behind_function t rest))
+    ∙ ap (λ (v : List ℕ). head_line ++ v) (line_before 102 (ref_text t.function) (after_function t rest))
 
 -- the steps by which parts are read
 record IsRead (bytes : List ℕ) (x : Parts × List ℕ) : Type 0 where
@@ -123,7 +123,7 @@ record IsRead (bytes : List ℕ) (x : Parts × List ℕ) : Type 0 where
   function_is : ref_at letter ≡ Some function
   args_is : all_lines_at 97 bytes_at function.1 ≡ Some args
   envs_is : all_lines_at 101 env_at args.1 ≡ Some envs
-  inputs_is : all_lines_at 105 input_at envs.1 ≡ Some inputs
+  inputs_is : all_lines_at 105 input_line_at envs.1 ≡ Some inputs
   outputs_is : all_lines_at 111 bytes_at inputs.1 ≡ Some outputs
   rest_is : strip_prefix end_line outputs.1 ≡ Some rest
   whole : (record { function = function.0; args = args.0; envs = envs.0; inputs = inputs.0; outputs = outputs.0 }, rest) ≡ x
@@ -136,7 +136,7 @@ parts_read bytes x e =
     let c = bind_some (ref_at b.0) _ x b.2 in
     let d = bind_some (all_lines_at 97 bytes_at c.0.1) _ x c.2 in
     let f = bind_some (all_lines_at 101 env_at d.0.1) _ x d.2 in
-    let g = bind_some (all_lines_at 105 input_at f.0.1) _ x f.2 in
+    let g = bind_some (all_lines_at 105 input_line_at f.0.1) _ x f.2 in
     let h = bind_some (all_lines_at 111 bytes_at g.0.1) _ x g.2 in
     let i = bind_some (strip_prefix end_line h.0.1) _ x h.2 in
     record {
@@ -174,8 +174,8 @@ parts_take bytes x e =
     let outputs_all = outputs.0 ∙ ap (λ (v : List ℕ). flat_map output_line r.outputs.0 ++ v) end in
     let inputs_all = inputs.0 ∙ ap (λ (v : List ℕ). flat_map input_line r.inputs.0 ++ v) outputs_all in
     let envs_all = envs.0 ∙ ap (λ (v : List ℕ). flat_map env_line r.envs.0 ++ v) inputs_all in
-    let behind_all : r.function.1 ≡ behind_function t r.rest = args.0 ∙ ap (λ (v : List ℕ). flat_map arg_line r.args.0 ++ v) envs_all in
-    let function_all = function.0 ∙ ap (λ (v : List ℕ). ref_text r.function.0 ++ 10 ∷ v) behind_all in
+    let after_all : r.function.1 ≡ after_function t r.rest = args.0 ∙ ap (λ (v : List ℕ). flat_map arg_line r.args.0 ++ v) envs_all in
+    let function_all = function.0 ∙ ap (λ (v : List ℕ). ref_text r.function.0 ++ 10 ∷ v) after_all in
     let all : bytes ≡ text_of t ++ r.rest = head ∙ ap (λ (v : List ℕ). head_line ++ v) (mark ∙ ap (λ (v : List ℕ). 102 ∷ 32 ∷ v) function_all) ∙ sym (text_before t r.rest) in
     subst (λ (v : Parts × List ℕ). (bytes ≡ text_of v.0 ++ v.1) × HasRefs v.0) r.whole (all, record { function = function.1; inputs = inputs.1 })
 
@@ -199,4 +199,4 @@ parts_again t rest h =
     let inputs = all_lines_again input_reader 105 t.inputs after_inputs h.inputs (begins_after 105 111 counted t.outputs after_outputs refl refl) in
     let outputs = all_lines_again bytes_reader 111 t.outputs after_outputs h.outputs refl in
     ap parts_at (text_before t rest)
-    ∙ rw (ref_at-again t.function (behind_function t rest) h.function, args, envs, inputs, outputs) refl
+    ∙ rw (ref_at-again t.function (after_function t rest) h.function, args, envs, inputs, outputs) refl

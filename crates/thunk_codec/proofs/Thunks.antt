@@ -10,14 +10,14 @@ use Rattle.std.proofs.lemmas.Slice.Eq.{bytes_eq-Decides}
 use Rattle.object_name.specs.Name.{max_size}
 use Rattle.thunk_codec.specs.declared.reference.Ref.{Ref}
 use Rattle.text_lines.specs.Maybe.{◌>>◌, bind_some, test_some}
-use Rattle.thunk_codec.specs.Path.{is_path}
 use Rattle.thunk_codec.specs.Reference.{IsRef}
-use Rattle.thunk_codec.specs.Thunk.{Parts, IsThunk, Text, text_of, counted, arg_line, env_line, input_line, output_line, has_no_zero, is_letter, is_digit, is_identifier, is_strictly_increasing, are_distinct}
+use Rattle.thunk_codec.specs.Thunk.{Parts, IsThunk, Text, text_of, keeps_rules, counted, arg_line, env_line, input_line, output_line, has_no_zero, is_letter, is_digit, is_identifier}
 use Rattle.thunk_codec.specs.Raw.{HasRefs}
-use Rattle.thunk_codec.specs.Reading.{parts_at, keeps_rules, thunk_of}
+use Rattle.thunk_codec.specs.Reading.{parts_at, thunk_of}
 use Rattle.thunk_codec.proofs.Lengths.{length-arg_line, length-output_line, length-line, length-counted, length-input_line}
-use Rattle.text_lines.proofs.CutLemmas.{has_no}
+use Rattle.text_lines.specs.Cuts.{has_no}
 use Rattle.thunk_codec.proofs.Fields.{IsShort, IsPair, IsInput}
+use Rattle.thunk_codec.proofs.RulesKept.{rules_kept}
 use Rattle.thunk_codec.proofs.Texts.{IsReadable, parts_take, parts_again}
 
 -- ---- the parts of a thunk are readable
@@ -53,11 +53,11 @@ identifier_without (byte ∷ key) h =
     let parts = and_parts (is_letter byte) (list_all (λ b. is_letter b || is_digit b) key) h in
     and_from _ _ (not_equals is_letter byte refl parts.0) (others_without key parts.1)
 
-pairs : (envs : List (List ℕ × List ℕ)) → length (flat_map env_line envs) < 2 ^ 64 → list_all is_identifier (map (λ env. env.0) envs) ≡ true → AllByRecursion IsPair envs
+pairs : (envs : List (List ℕ × List ℕ)) → length (flat_map env_line envs) < 2 ^ 64 → list_all (λ env. is_identifier env.0) envs ≡ true → AllByRecursion IsPair envs
 pairs [] h keys = tt
 pairs (env ∷ envs) h keys =
     let both = first_and_others env_line env envs in
-    let parts = and_parts (is_identifier env.0) (list_all is_identifier (map (λ e. e.0) envs)) keys in
+    let parts = and_parts (is_identifier env.0) (list_all (λ e. is_identifier e.0) envs) keys in
     let said = env.0 ++ 61 ∷ env.1 in
     ((identifier_without env.0 parts.0, omega (arith, h, both, length-line 101 (counted (env.0 ++ 61 ∷ env.1)), length-counted (env.0 ++ 61 ∷ env.1))), pairs envs (omega (arith, h, both)) parts.1)
 
@@ -71,10 +71,12 @@ pub thunk_readable : (t : Parts) → IsThunk t → IsReadable t
 unfolding text_of
 thunk_readable t rules =
     let whole = simp length-append at rules.size in
+    let bytes = and_parts (list_all has_no_zero t.args) _ (rules_kept t rules.rules).bytes in
+    let keys = and_parts (list_all (λ env. is_identifier env.0) t.envs) _ bytes.1 in
     record {
       function = rules.function;
       args = short_args t.args (omega (arith, whole));
-      envs = pairs t.envs (omega (arith, whole)) rules.keys;
+      envs = pairs t.envs (omega (arith, whole)) keys.0;
       inputs = input_parts t.inputs (omega (arith, whole)) rules.input_refs;
       outputs = short_outputs t.outputs (omega (arith, whole));
     }
@@ -85,41 +87,9 @@ mapped_refs : (inputs : List (List ℕ × Ref)) → AllByRecursion (λ input. Is
 mapped_refs [] h = tt
 mapped_refs (input ∷ inputs) h = (h.0, mapped_refs inputs h.1)
 
--- parts that pass the test and have a short text are a thunk's
+-- parts that keep the rules and have a short text are a thunk's
 pub rules_from : (t : Parts) → HasRefs t → length (text_of t) ≤ max_size → keeps_rules t ≡ true → IsThunk t
-rules_from t refs size h =
-    let a = and_parts (list_all has_no_zero t.args) _ h in
-    let b = and_parts (list_all is_identifier (map (λ env. env.0) t.envs)) _ a.1 in
-    let c = and_parts (list_all has_no_zero (map (λ env. env.1) t.envs)) _ b.1 in
-    let d = and_parts (is_strictly_increasing (map (λ env. env.0) t.envs)) _ c.1 in
-    let e = and_parts (list_all is_path (map (λ input. input.0) t.inputs)) _ d.1 in
-    let f = and_parts (is_strictly_increasing (map (λ input. input.0) t.inputs)) _ e.1 in
-    let g = and_parts (leb (length t.inputs) 4096) _ f.1 in
-    let i = and_parts (list_all is_path t.outputs) _ g.1 in
-    let j = and_parts (are_distinct t.outputs) _ i.1 in
-    let k = and_parts (leb 1 (length t.outputs)) (leb (length t.outputs) 64) j.1 in
-    record {
-      function = refs.function;
-      args = a.0;
-      keys = b.0;
-      env_values = c.0;
-      keys_rise = d.0;
-      input_refs = mapped_refs t.inputs refs.inputs;
-      input_paths = e.0;
-      paths_rise = f.0;
-      few_inputs = leb-true _ _ g.0;
-      output_paths = i.0;
-      outputs_differ = j.0;
-      some_output = leb-true _ _ k.0;
-      few_outputs = leb-true _ _ k.1;
-      size = size;
-    }
-
--- a thunk's parts pass the test
-pub rules_test : (t : Parts) → IsThunk t → keeps_rules t ≡ true
-rules_test t h =
-    and_from _ _ h.args (and_from _ _ h.keys (and_from _ _ h.env_values (and_from _ _ h.keys_rise (and_from _ _ h.input_paths (and_from _ _ h.paths_rise
-    (and_from _ _ (le-leb _ _ h.few_inputs) (and_from _ _ h.output_paths (and_from _ _ h.outputs_differ (and_from _ _ (le-leb _ _ h.some_output) (le-leb _ _ h.few_outputs))))))))))
+rules_from t refs size rules = record { function = refs.function; input_refs = mapped_refs t.inputs refs.inputs; rules = rules; size = size }
 
 -- what is read has this text
 pub thunk_of-text : (bytes : List ℕ) (t : Parts) → thunk_of bytes ≡ Some t → Text bytes t
@@ -141,7 +111,7 @@ unfolding thunk_of
 text-thunk_of bytes t h =
     let read : parts_at bytes ≡ Some (t, []) = ap parts_at (h.text ∙ sym (append-nil (text_of t))) ∙ parts_again t [] (thunk_readable t h.rules) in
     let small : leb (length bytes) max_size ≡ true = le-leb _ _ (subst (λ (v : List ℕ). length v ≤ max_size) (sym h.text) h.rules.size) in
-    let rules : keeps_rules t ≡ true = rules_test t h.rules in
+    let rules : keeps_rules t ≡ true = h.rules.rules in
     rw (small, read, rules) refl
 
 -- no text is that of two thunks

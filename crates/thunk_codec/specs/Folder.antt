@@ -17,7 +17,7 @@ folder_of text = do
     check (nat_le (length path) max_path)
     Some (folder_text path)
 
--- the text is a folder as it stands
+-- whether the text is a canonical folder: the folder that it gives
 unfoldable pub is_folder : List ℕ → Bool
 is_folder text = is_same_path text (folder_of text)
 

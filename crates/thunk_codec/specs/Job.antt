@@ -14,24 +14,24 @@ abbrev pub max_job : ℕ
 max_job = 67108864
 
 -- a count: four bytes, the highest first
-abbrev pub count : ℕ → List ℕ
-count n = to_be_bytes w32 n
+abbrev pub encoded_count : ℕ → List ℕ
+encoded_count n = to_be_bytes w32 n
 
 -- a string: its length as a count, then its bytes
-abbrev pub string : List ℕ → List ℕ
-string bytes = count (length bytes) ++ bytes
+abbrev pub encoded_string : List ℕ → List ℕ
+encoded_string bytes = encoded_count (length bytes) ++ bytes
 
 -- two strings
-abbrev pub string_pair : List ℕ × List ℕ → List ℕ
-string_pair pair = string pair.0 ++ string pair.1
+abbrev pub encoded_pair : List ℕ × List ℕ → List ℕ
+encoded_pair pair = encoded_string pair.0 ++ encoded_string pair.1
 
 -- the encoding of a job
 unfoldable pub job_encoding : Job → List ℕ
-job_encoding job = string job.function
-    ++ (count (length job.args) ++ (flat_map string job.args
-    ++ (count (length job.envs) ++ (flat_map string_pair job.envs
-    ++ (count (length job.inputs) ++ (flat_map string_pair job.inputs
-    ++ (count (length job.outputs) ++ flat_map string job.outputs)))))))
+job_encoding job = encoded_string job.function
+    ++ (encoded_count (length job.args) ++ (flat_map encoded_string job.args
+    ++ (encoded_count (length job.envs) ++ (flat_map encoded_pair job.envs
+    ++ (encoded_count (length job.inputs) ++ (flat_map encoded_pair job.inputs
+    ++ (encoded_count (length job.outputs) ++ flat_map encoded_string job.outputs)))))))
 
 -- the length of the encoding
 abbrev pub job_size : Job → ℕ

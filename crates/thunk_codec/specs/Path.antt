@@ -11,7 +11,7 @@ max_path = 1024
 abbrev pub is_slash : ℕ → Bool
 is_slash byte = byte == 47
 
--- the pieces before, between and behind the slashes: one more than there are slashes
+-- the pieces before, between and after the slashes: one more than there are slashes
 abbrev pub pieces_of : List ℕ → List (List ℕ)
 pieces_of text = slice_split is_slash text
 
@@ -61,6 +61,6 @@ abbrev pub is_same_path : List ℕ → Option (List ℕ) → Bool
 is_same_path text None = false
 is_same_path text (Some path) = bytes_eq path text
 
--- the text is a normal path as it stands
+-- whether the text is a canonical path: its own normal path
 unfoldable pub is_path : List ℕ → Bool
 is_path text = is_same_path text (path_of text)

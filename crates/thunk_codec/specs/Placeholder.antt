@@ -17,7 +17,7 @@ pub record IsPlaceholder (bytes : List ℕ) (name : ObjectName) (index : ℕ) : 
   pub output : IsRef (Out name index)
   pub text : bytes ≡ placeholder_text name index
 
--- the thunk and the place of an output
+-- the thunk and the index of an output
 abbrev pub output_of : Ref → Option (ObjectName × ℕ)
 output_of (Value name) = None
 output_of (Out name index) = Some (name, index)

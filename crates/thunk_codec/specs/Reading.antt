@@ -1,14 +1,13 @@
 -- Reading a thunk's text from its beginning, as a total function.
-use Rattle.std.specs.Prelude.{ℕ, zero, suc, List, [], ◌∷◌, length, map, take, drop, nat_eq, nat_le, ◌==◌, ◌&&◌, Bool, Option, Some, None, bytes_eq, if◌then◌else◌}
-use Rattle.std.specs.List.{starts_with, list_all}
+use Rattle.std.specs.Prelude.{ℕ, zero, suc, List, [], ◌∷◌, length, take, drop, nat_eq, nat_le, Option, Some, None, bytes_eq, if◌then◌else◌}
+use Rattle.std.specs.List.{starts_with}
 use Rattle.object_name.specs.Number.{number_of}
 use Rattle.object_name.specs.Name.{max_size}
 use Rattle.thunk_codec.specs.declared.reference.Ref.{Ref}
 use Rattle.text_lines.specs.Cuts.{strip_prefix, split_at_byte}
 use Rattle.text_lines.specs.Maybe.{◌>>=◌, ◌>>◌, check}
-use Rattle.thunk_codec.specs.Path.{is_path}
 use Rattle.thunk_codec.specs.Reference.{ref_of}
-use Rattle.thunk_codec.specs.Thunk.{Parts, head_line, end_line, has_no_zero, is_identifier, is_strictly_increasing, are_distinct}
+use Rattle.thunk_codec.specs.Thunk.{Parts, head_line, end_line, keeps_rules}
 
 -- `LEN:` and so many bytes
 unfoldable pub counted_at : List ℕ → Option (List ℕ × List ℕ)
@@ -25,23 +24,23 @@ ref_at bytes = do
   ref ← ref_of text.0
   Some (ref, text.1)
 
--- what an `a` or `o` line says behind its letter
+-- what an `a` or `o` line says after its letter
 unfoldable pub bytes_at : List ℕ → Option (List ℕ × List ℕ)
 bytes_at bytes = do
   said ← counted_at bytes
   rest ← strip_prefix (10 ∷ []) said.1
   Some (said.0, rest)
 
--- what an `e` line says behind its letter
+-- what an `e` line says after its letter
 unfoldable pub env_at : List ℕ → Option ((List ℕ × List ℕ) × List ℕ)
 env_at bytes = do
   said ← bytes_at bytes
   env ← split_at_byte 61 said.0
   Some (env, said.1)
 
--- what an `i` line says behind its letter
-unfoldable pub input_at : List ℕ → Option ((List ℕ × Ref) × List ℕ)
-input_at bytes = do
+-- what an `i` line says after its letter
+unfoldable pub input_line_at : List ℕ → Option ((List ℕ × Ref) × List ℕ)
+input_line_at bytes = do
   path ← counted_at bytes
   text ← strip_prefix (32 ∷ []) path.1
   ref ← ref_at text
@@ -61,7 +60,7 @@ lines_at letter said_at (suc most) bytes =
 abbrev pub all_lines_at : {A : Type 0} → ℕ → (List ℕ → Option (A × List ℕ)) → List ℕ → Option (List A × List ℕ)
 all_lines_at letter said_at bytes = lines_at letter said_at (length bytes) bytes
 
--- the parts that a text lists, whatever rules they break, and the bytes behind it
+-- the parts that a text lists, whatever rules they break, and the bytes after it
 unfoldable pub parts_at : List ℕ → Option (Parts × List ℕ)
 parts_at bytes = do
   first ← strip_prefix head_line bytes
@@ -69,24 +68,10 @@ parts_at bytes = do
   function ← ref_at letter
   args ← all_lines_at 97 bytes_at function.1
   envs ← all_lines_at 101 env_at args.1
-  inputs ← all_lines_at 105 input_at envs.1
+  inputs ← all_lines_at 105 input_line_at envs.1
   outputs ← all_lines_at 111 bytes_at inputs.1
   rest ← strip_prefix end_line outputs.1
   Some (record { function = function.0; args = args.0; envs = envs.0; inputs = inputs.0; outputs = outputs.0 }, rest)
-
--- the rules on environments, inputs and outputs
-abbrev pub keeps_rules : Parts → Bool
-keeps_rules t =
-    list_all has_no_zero t.args
-    && (list_all is_identifier (map (λ env. env.0) t.envs)
-    && (list_all has_no_zero (map (λ env. env.1) t.envs)
-    && (is_strictly_increasing (map (λ env. env.0) t.envs)
-    && (list_all is_path (map (λ input. input.0) t.inputs)
-    && (is_strictly_increasing (map (λ input. input.0) t.inputs)
-    && (nat_le (length t.inputs) 4096
-    && (list_all is_path t.outputs
-    && (are_distinct t.outputs
-    && (nat_le 1 (length t.outputs) && nat_le (length t.outputs) 64)))))))))
 
 -- the parts of the thunk whose text this is, if there is one
 unfoldable pub thunk_of : List ℕ → Option Parts

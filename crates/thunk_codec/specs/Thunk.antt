@@ -1,9 +1,11 @@
 -- Thunks: their parts, the rules that the parts keep, and their one text.
-use Rattle.std.specs.Prelude.{◌≡◌, ℕ, ◌≤◌, List, [], ◌∷◌, ◌++◌, length, map, ◌==◌, ◌&&◌, ◌||◌, not, nat_le, Bool, true, false, IsTrue, decimal, codes, bytes_eq}
-use Rattle.std.specs.List.{flat_map, list_all, list_any, AllByRecursion}
+use Rattle.std.specs.Prelude.{◌≡◌, ℕ, ◌≤◌, List, [], ◌∷◌, ◌++◌, length, map, ◌==◌, ◌&&◌, ◌||◌, not, nat_le, Bool, true, false, IsTrue, decimal, codes}
+use Rattle.std.specs.List.{flat_map, list_all, AllByRecursion}
 use Rattle.std.specs.Ordering.{nat_cmp, is_lt}
 use Rattle.std.specs.Cmp.Lexicographic.{slice_cmp}
+use Rattle.object_name.specs.Kind.{max_outputs}
 use Rattle.object_name.specs.Name.{max_size}
+use Rattle.text_lines.specs.Among.{is_among}
 use Rattle.thunk_codec.specs.declared.reference.Ref.{Ref}
 use Rattle.thunk_codec.specs.Reference.{IsRef, ref_text}
 use Rattle.thunk_codec.specs.Path.{is_path}
@@ -21,7 +23,7 @@ pub record Parts : Type 0 where
 abbrev pub line : ℕ → List ℕ → List ℕ
 line letter said = letter ∷ 32 ∷ said ++ 10 ∷ []
 
--- bytes with their number in front
+-- bytes after their number
 abbrev pub counted : List ℕ → List ℕ
 counted bytes = decimal (length bytes) ++ 58 ∷ bytes
 
@@ -80,26 +82,37 @@ is_strictly_increasing [] = true
 is_strictly_increasing (first ∷ []) = true
 is_strictly_increasing (first ∷ second ∷ others) = is_lt (slice_cmp nat_cmp first second) && is_strictly_increasing (second ∷ others)
 
--- no text stands twice
+-- no text is repeated
 abbrev pub are_distinct : List (List ℕ) → Bool
 are_distinct [] = true
-are_distinct (first ∷ others) = not (list_any (bytes_eq first) others) && are_distinct others
+are_distinct (first ∷ others) = not (is_among others first) && are_distinct others
 
--- what the parts of a thunk keep
+-- the rules on how many inputs and outputs there are
+abbrev pub keeps_numbers : Parts → Bool
+keeps_numbers t = nat_le (length t.inputs) 4096 && (nat_le 1 (length t.outputs) && nat_le (length t.outputs) max_outputs)
+
+-- the rules on the bytes of arguments and of the environment
+abbrev pub keeps_bytes : Parts → Bool
+keeps_bytes t = list_all has_no_zero t.args
+    && (list_all (λ env. is_identifier env.0) t.envs && list_all (λ env. has_no_zero env.1) t.envs)
+
+-- the rules on orders: keys and inputs are sorted, and no output is repeated
+abbrev pub keeps_orders : Parts → Bool
+keeps_orders t = is_strictly_increasing (map (λ env. env.0) t.envs) && (is_strictly_increasing (map (λ input. input.0) t.inputs) && are_distinct t.outputs)
+
+-- the rules on paths
+abbrev pub keeps_paths : Parts → Bool
+keeps_paths t = list_all is_path (map (λ input. input.0) t.inputs) && list_all is_path t.outputs
+
+-- the rules on the parts of a thunk, but for those on its REFs and on the length of its text
+abbrev pub keeps_rules : Parts → Bool
+keeps_rules t = keeps_numbers t && (keeps_bytes t && (keeps_orders t && keeps_paths t))
+
+-- the parts of a thunk: its REFs are REFs, they keep the rules, and their text is no longer than an object
 pub record IsThunk (t : Parts) : Type 0 where
   pub function : IsRef t.function
-  pub args : IsTrue (list_all has_no_zero t.args)
-  pub keys : IsTrue (list_all is_identifier (map (λ env. env.0) t.envs))
-  pub env_values : IsTrue (list_all has_no_zero (map (λ env. env.1) t.envs))
-  pub keys_rise : IsTrue (is_strictly_increasing (map (λ env. env.0) t.envs))
   pub input_refs : AllByRecursion IsRef (map (λ input. input.1) t.inputs)
-  pub input_paths : IsTrue (list_all is_path (map (λ input. input.0) t.inputs))
-  pub paths_rise : IsTrue (is_strictly_increasing (map (λ input. input.0) t.inputs))
-  pub few_inputs : length t.inputs ≤ 4096
-  pub output_paths : IsTrue (list_all is_path t.outputs)
-  pub outputs_differ : IsTrue (are_distinct t.outputs)
-  pub some_output : 1 ≤ length t.outputs
-  pub few_outputs : length t.outputs ≤ 64
+  pub rules : IsTrue (keeps_rules t)
   pub size : length (text_of t) ≤ max_size
 
 -- the bytes are the text of the thunk with these parts

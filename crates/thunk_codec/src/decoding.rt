@@ -5,10 +5,10 @@ ghost use Rattle.object_name.specs.Name.{max_size};
 ghost use Rattle.thunk_codec.specs.declared.decoding.DecodeFault.TheVariants.{Memory};
 ghost use Rattle.thunk_codec.specs.Gives.{Gives, only_if};
 ghost use Rattle.thunk_codec.specs.Raw.{HasRefs, parts_of};
-ghost use Rattle.thunk_codec.specs.Reading.{keeps_rules, thunk_of};
-ghost use Rattle.thunk_codec.specs.Thunk.{Parts, Text, text_of};
+ghost use Rattle.thunk_codec.specs.Reading.{thunk_of};
+ghost use Rattle.thunk_codec.specs.Thunk.{Parts, Text, keeps_rules, text_of};
 
-use crate::in_place::{inputs_as_are, paths_as_are};
+use crate::canonical::{canonical_inputs, canonical_paths};
 use crate::parts::{RawParts, parts_at};
 use crate::rules::{keeps_bytes, keeps_numbers, keeps_orders};
 use crate::thunk::Thunk;
@@ -55,8 +55,8 @@ fn thunk_with(alloc: Global, raw: RawParts) -> Result<Thunk, DecodeFault>
     if !keeps_orders(&raw) {
         return Err(DecodeFault::BadThunk);
     }
-    let inputs = inputs_as_are(alloc, raw.inputs.as_slice())?;
-    let outputs = paths_as_are(alloc, raw.outputs.as_slice())?;
+    let inputs = canonical_inputs(alloc, raw.inputs.as_slice())?;
+    let outputs = canonical_paths(alloc, raw.outputs.as_slice())?;
     Ok(Thunk::from_parts(raw.function, raw.args, raw.envs, inputs, outputs))
 }
 

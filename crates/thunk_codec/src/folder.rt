@@ -135,7 +135,7 @@ impl Folder {
     }
 
     /// The normal path of a text that is seen from the folder. There is none where the text begins with `/`, or where the
-    /// text behind the folder and a `/` has no normal path.
+    /// text after the folder and a `/` has no normal path.
     #[tactic(auto, unfolding(crate::specs::Folder::joined_from))]
     pub fn join(&self, alloc: Global, text: &[u8]) -> Result<Option<Path>, AllocError>
         ensures { IfOk result (λ found. found ≡ joined_from self.now text.now) }

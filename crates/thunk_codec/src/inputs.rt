@@ -9,7 +9,7 @@ ghost use Rattle.thunk_codec.specs.Thunk.{is_strictly_increasing};
 
 use crate::job::Job;
 use crate::path::Path;
-use crate::rules::paths_rise;
+use crate::rules::paths_are_sorted;
 use object_name::Bytes;
 use std::marker::Model;
 
@@ -71,7 +71,7 @@ impl Job {
         ensures { result ≡ self.now.inputs }
     {
         let inputs = self.inputs.as_slice();
-        let are_sorted = paths_rise(inputs);
+        let are_sorted = paths_are_sorted(inputs);
         InputsByPath { inputs, are_sorted }
     }
 }

@@ -5,8 +5,8 @@ ghost use Rattle.object_name.specs.Name.{max_size};
 ghost use Rattle.thunk_codec.specs.Job.{size_by_lengths};
 ghost use Rattle.thunk_codec.specs.Resolved.{OfThunk, HaveObjectLengths};
 
+use crate::job_size::{args_size, envs_size, lengths_size, outputs_size};
 use crate::path::Path;
-use crate::resolved::{args_size, envs_size, lengths_size, outputs_size};
 use object_name::Bytes;
 
 /// The length of the encoding of a job with these parts, of whose objects the lengths are given.

@@ -1,14 +1,15 @@
 //! Paths, references, thunks and jobs, and their texts.
 #![tactic(auto)]
 
+mod canonical;
 mod decoding;
 mod encoding;
 mod folder;
 mod function;
-mod in_place;
 mod inputs;
 mod job;
 mod job_length;
+mod job_size;
 pub mod laws;
 mod lines;
 mod making;
@@ -18,7 +19,6 @@ mod path;
 mod placeholder;
 mod reading;
 mod reference;
-mod resolved;
 mod resolving;
 mod rules;
 mod thunk;
@@ -35,7 +35,7 @@ pub use path::Path;
 pub use placeholder::{read_placeholder, write_placeholder};
 pub use reference::Ref;
 pub use resolving::resolve;
-pub use rules::{is_identifier, is_letter, is_letter_or_digit};
+pub use rules::{is_among, is_identifier, is_letter, is_letter_or_digit};
 pub use thunk::Thunk;
 
 #[cfg(test)]

@@ -12,7 +12,7 @@ use std::alloc::{AllocError, Global};
 /// The greatest length of a path, in bytes.
 pub const MAX_PATH: usize = 1024;
 
-/// The bytes before the first `/`, and those behind it, where there is one.
+/// The bytes before the first `/`, and those after it, where there is one.
 fn first_piece(text: &[u8]) -> (&[u8], Option<&[u8]>)
     ensures { MatchOption result.1 (pieces_of text.now ≡ result.0.now ∷ [])
         (λ rest. (pieces_of text.now ≡ result.0.now ∷ pieces_of rest.now) × (length rest.now < length text.now)) }
@@ -36,7 +36,7 @@ pub fn drop_last(path: &mut Bytes)
     }
 }
 
-/// The bytes behind the last `/`, or all where there is none.
+/// The bytes after the last `/`, or all where there is none.
 pub fn last_piece(text: &[u8]) -> &[u8]
     ensures { result.now ≡ after_last is_slash text.now }
 {

@@ -22,7 +22,7 @@ pub struct RawParts {
     pub outputs: Many<Bytes>,
 }
 
-/// The parts that a text lists, and what stands behind it.
+/// The parts that a text lists, and what comes after it.
 #[tactic(auto, unfolding(crate::specs::Reading::parts_at))]
 pub fn parts_at(alloc: Global, bytes: &[u8]) -> Result<(RawParts, &[u8]), DecodeFault>
     ensures { Gives (λ x. (parts_of x.0, x.1.now)) result (parts_at bytes.now) }

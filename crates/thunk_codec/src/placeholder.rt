@@ -25,7 +25,7 @@ pub fn write_placeholder(alloc: Global, name: &Name, index: u32) -> Result<Bytes
     Ok(text)
 }
 
-/// The thunk and the place of the output whose placeholder this is.
+/// The thunk and the index of the output whose placeholder this is.
 pub fn read_placeholder(bytes: &[u8]) -> Option<(Name, u32)>
     ensures found { IfSome result (λ read. IsPlaceholder bytes.now read.0 read.1) }
     ensures only { (name : ObjectName) (index : ℕ) → IsPlaceholder bytes.now name index → result ≡ Some (name, index) }
@@ -43,7 +43,7 @@ fn read_output(bytes: &[u8]) -> Option<(Name, u32)>
     output(&Ref::read(text)?)
 }
 
-/// The thunk and the place of an output.
+/// The thunk and the index of an output.
 fn output(reference: &Ref) -> Option<(Name, u32)>
     ensures { result ≡ output_of reference.now }
 {

@@ -4,7 +4,7 @@ ghost use Rattle.std.specs.Prelude.{◌≡◌, Some, None};
 ghost use Rattle.object_name.specs.Number.{number_of};
 ghost use Rattle.thunk_codec.specs.Gives.{Gives};
 ghost use Rattle.text_lines.specs.Cuts.{strip_prefix, split_at_byte};
-ghost use Rattle.thunk_codec.specs.Reading.{counted_at, ref_at, bytes_at, env_at, input_at};
+ghost use Rattle.thunk_codec.specs.Reading.{counted_at, ref_at, bytes_at, env_at, input_line_at};
 
 use crate::decoding::DecodeFault;
 use crate::reference::Ref;
@@ -55,7 +55,7 @@ pub fn ref_at(bytes: &[u8]) -> Result<(Ref, &[u8]), DecodeFault>
     Ok((reference, rest))
 }
 
-/// What an `a` or `o` line says behind its letter, where it stands.
+/// What an `a` or `o` line says after its letter, where it stands.
 #[tactic(auto, unfolding(crate::specs::Reading::bytes_at))]
 fn said_at(bytes: &[u8]) -> Result<(&[u8], &[u8]), DecodeFault>
     ensures { Gives (λ x. (x.0.now, x.1.now)) result (bytes_at bytes.now) }
@@ -65,7 +65,7 @@ fn said_at(bytes: &[u8]) -> Result<(&[u8], &[u8]), DecodeFault>
     Ok((said, rest))
 }
 
-/// What an `a` or `o` line says behind its letter.
+/// What an `a` or `o` line says after its letter.
 pub fn bytes_at(alloc: Global, bytes: &[u8]) -> Result<(Bytes, &[u8]), DecodeFault>
     ensures { Gives (λ x. (x.0, x.1.now)) result (bytes_at bytes.now) }
 {
@@ -73,7 +73,7 @@ pub fn bytes_at(alloc: Global, bytes: &[u8]) -> Result<(Bytes, &[u8]), DecodeFau
     Ok((Bytes::from_slice(alloc, said)?, rest))
 }
 
-/// What an `e` line says behind its letter.
+/// What an `e` line says after its letter.
 #[tactic(auto, unfolding(crate::specs::Reading::env_at))]
 pub fn env_at(alloc: Global, bytes: &[u8]) -> Result<((Bytes, Bytes), &[u8]), DecodeFault>
     ensures { Gives (λ x. (x.0, x.1.now)) result (env_at bytes.now) }
@@ -85,10 +85,10 @@ pub fn env_at(alloc: Global, bytes: &[u8]) -> Result<((Bytes, Bytes), &[u8]), De
     Ok(((key, value), rest))
 }
 
-/// What an `i` line says behind its letter.
-#[tactic(auto, unfolding(crate::specs::Reading::input_at))]
-pub fn input_at(alloc: Global, bytes: &[u8]) -> Result<((Bytes, Ref), &[u8]), DecodeFault>
-    ensures { Gives (λ x. (x.0, x.1.now)) result (input_at bytes.now) }
+/// What an `i` line says after its letter.
+#[tactic(auto, unfolding(crate::specs::Reading::input_line_at))]
+pub fn input_line_at(alloc: Global, bytes: &[u8]) -> Result<((Bytes, Ref), &[u8]), DecodeFault>
+    ensures { Gives (λ x. (x.0, x.1.now)) result (input_line_at bytes.now) }
 {
     let (path, rest) = counted_at(bytes)?;
     let rest = strip_prefix(b" ", rest)?;

@@ -1,19 +1,16 @@
 //! References to objects: values by name, and outputs of thunks.
 
 ghost use Rattle.std.specs.Prelude.{◌≡◌, ◌↔◌, ◌++◌, ◌∷◌, ◌<◌, IsTrue, take, length, decimal, IfSome, Some, OnOk, OnErr};
-ghost use Rattle.object_name.specs.Name.{IsName};
+ghost use Rattle.object_name.specs.Name.{IsName, spelling_len};
 ghost use Rattle.thunk_codec.specs.declared.reference.Ref.{Ref};
 ghost use Rattle.thunk_codec.specs.declared.reference.Ref.TheVariants.{Value, Out};
 ghost use Rattle.thunk_codec.specs.Reference.{IsRef, ref_text, ref_of, value_ref_of, out_ref_of};
 ghost use Rattle.thunk_codec.specs.Job.{ref_name};
 
-use object_name::{Bytes, Kind, Name, TryCopy, read_number, write_number};
+use object_name::{Bytes, Kind, Name, SPELLING_LEN, TryCopy, read_number, write_number};
 use std::alloc::{AllocError, Global};
 
-/// How long the spelling of a name is.
-const SPELLING: usize = 52;
-
-/// A value by its name, or an output of a thunk by the thunk's name and the output's place, from 0.
+/// A value by its name, or an output of a thunk by the thunk's name and the output's index, from 0.
 #[derive(Clone, Copy, Debug, PartialEq, Eq)]
 pub enum Ref {
     Value(Name),
@@ -50,7 +47,7 @@ impl Ref {
         ensures ok { OnOk result (out.new ≡ out.old ++ ref_text self.now) }
         ensures err { OnErr result (out.new ≡ out.old) }
     {
-        let mut spelling = [0; 52];
+        let mut spelling = [0; SPELLING_LEN];
         self.name().spell(&mut spelling);
         match self {
             Ref::Value(_) => out.append(&spelling),
@@ -69,7 +66,7 @@ impl TryCopy for Ref {
 pub fn vouch(name: &Name)
     ensures { IsName name.now }
 {
-    name.spell(&mut [0; SPELLING]);
+    name.spell(&mut [0; SPELLING_LEN]);
 }
 
 /// Whether a value may have this name.
@@ -111,10 +108,10 @@ fn read_value(text: &[u8]) -> Option<Ref>
 
 /// The output that a text names.
 fn read_output(text: &[u8]) -> Option<Ref>
-    requires { 52 < length text.now }
+    requires { spelling_len < length text.now }
     ensures { result ≡ out_ref_of text.now }
 {
-    let (prefix, rest) = text.split_at(SPELLING);
+    let (prefix, rest) = text.split_at(SPELLING_LEN);
     let name = Name::read(prefix)?;
     if name.kind() == Kind::Value {
         return None;
@@ -134,7 +131,7 @@ fn read_output(text: &[u8]) -> Option<Ref>
 fn read_ref(text: &[u8]) -> Option<Ref>
     ensures { result ≡ ref_of text.now }
 {
-    if text.len() <= SPELLING {
+    if text.len() <= SPELLING_LEN {
         read_value(text)
     } else {
         read_output(text)

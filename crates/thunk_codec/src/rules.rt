@@ -1,16 +1,18 @@
 //! The rules that the parts of a thunk keep.
 
-ghost use Rattle.std.specs.Prelude.{◌≡◌, ◌&&◌, ◌||◌, not, map, nat_le, bytes_eq};
-ghost use Rattle.std.specs.List.{list_all, list_any};
+ghost use Rattle.std.specs.Prelude.{◌≡◌, ◌&&◌, ◌||◌, not, map, nat_le};
+ghost use Rattle.std.specs.List.{list_all};
 ghost use Rattle.std.specs.Ordering.{nat_cmp, is_lt};
 ghost use Rattle.std.specs.Cmp.Lexicographic.{slice_cmp};
-ghost use Rattle.thunk_codec.specs.Raw.{parts_of, keeps_numbers, keeps_bytes, keeps_orders};
-ghost use Rattle.thunk_codec.specs.Thunk.{has_no_zero, is_letter, is_digit, is_identifier, is_strictly_increasing, are_distinct};
+ghost use Rattle.object_name.specs.Kind.{max_outputs};
+ghost use Rattle.text_lines.specs.Among.{is_among};
+ghost use Rattle.thunk_codec.specs.Raw.{parts_of};
+ghost use Rattle.thunk_codec.specs.Thunk.{keeps_numbers, keeps_bytes, keeps_orders, has_no_zero, is_letter, is_digit, is_identifier, is_strictly_increasing, are_distinct};
 
 use crate::parts::RawParts;
 use crate::path::Path;
 use crate::reference::Ref;
-use object_name::Bytes;
+use object_name::{Bytes, MAX_OUTPUTS};
 
 /// Whether no byte is zero.
 fn has_no_zero(bytes: &[u8]) -> bool
@@ -26,14 +28,14 @@ pub fn is_letter(byte: u8) -> bool
     byte.is_ascii_uppercase() || byte.is_ascii_lowercase() || byte == b'_'
 }
 
-/// Whether a byte may stand in an identifier behind the first: an ASCII letter, a digit or `_`.
+/// Whether a byte may stand in an identifier after the first: an ASCII letter, a digit or `_`.
 pub fn is_letter_or_digit(byte: u8) -> bool
     ensures { result ≡ (is_letter byte || is_digit byte) }
 {
     is_letter(byte) || (48 <= byte && byte <= 57)
 }
 
-/// Whether all bytes may stand in an identifier behind the first.
+/// Whether all bytes may stand in an identifier after the first.
 fn are_letters_or_digits(text: &[u8]) -> bool
     ensures { result ≡ list_all (λ byte. is_letter byte || is_digit byte) text.now }
 {
@@ -58,7 +60,7 @@ fn is_before(first: &[u8], second: &[u8]) -> bool
 }
 
 /// Whether each text is before the next.
-fn rise<T>(items: &[(Bytes, T)]) -> bool
+fn are_sorted<T>(items: &[(Bytes, T)]) -> bool
     ensures { result ≡ is_strictly_increasing (map (λ item. item.0) items.now) }
 {
     let mut rest = items;
@@ -75,7 +77,7 @@ fn rise<T>(items: &[(Bytes, T)]) -> bool
 }
 
 /// Whether each path is before the next.
-pub fn paths_rise<T>(inputs: &[(Path, T)]) -> bool
+pub fn paths_are_sorted<T>(inputs: &[(Path, T)]) -> bool
     ensures { result ≡ is_strictly_increasing (map (λ input. input.0) inputs.now) }
 {
     let mut rest = inputs;
@@ -92,19 +94,19 @@ pub fn paths_rise<T>(inputs: &[(Path, T)]) -> bool
 }
 
 /// Whether a text is one of some.
-fn is_among(text: &[u8], others: &[Bytes]) -> bool
-    ensures { result ≡ list_any (bytes_eq text.now) others.now }
+pub fn is_among(texts: &[Bytes], text: &[u8]) -> bool
+    ensures { result ≡ is_among texts.now text.now }
 {
-    others.iter().any(|other| text == other.as_slice())
+    texts.iter().any(|other| text == other.as_slice())
 }
 
-/// Whether no text stands twice.
+/// Whether no text is repeated.
 fn are_distinct(texts: &[Bytes]) -> bool
     ensures { result ≡ are_distinct texts.now }
 {
     let mut rest = texts;
     'texts: while let [first, others @ ..] = rest {
-        if is_among(first.as_slice(), others) {
+        if is_among(others, first.as_slice()) {
             return false;
         }
         rest = others;
@@ -113,19 +115,19 @@ fn are_distinct(texts: &[Bytes]) -> bool
 }
 
 /// Whether a path is one of some.
-fn is_path_among(path: &Path, others: &[Path]) -> bool
-    ensures { result ≡ list_any (bytes_eq path.now) others.now }
+fn is_path_among(paths: &[Path], path: &Path) -> bool
+    ensures { result ≡ is_among paths.now path.now }
 {
-    others.iter().any(|other| path == other)
+    paths.iter().any(|other| path == other)
 }
 
-/// Whether no path stands twice.
+/// Whether no path is repeated.
 fn paths_are_distinct(paths: &[Path]) -> bool
     ensures { result ≡ are_distinct paths.now }
 {
     let mut rest = paths;
     'paths: while let [first, others @ ..] = rest {
-        if is_path_among(first, others) {
+        if is_path_among(others, first) {
             return false;
         }
         rest = others;
@@ -156,9 +158,9 @@ fn args_have_no_zero(args: &[Bytes]) -> bool
 
 /// Whether there are few enough inputs, and as many outputs as a thunk has.
 pub fn keep_numbers(inputs: usize, outputs: usize) -> bool
-    ensures { result ≡ (nat_le inputs 4096 && (nat_le 1 outputs && nat_le outputs 64)) }
+    ensures { result ≡ (nat_le inputs 4096 && (nat_le 1 outputs && nat_le outputs max_outputs)) }
 {
-    inputs <= 4096 && (1 <= outputs && outputs <= 64)
+    inputs <= 4096 && (1 <= outputs && outputs <= MAX_OUTPUTS)
 }
 
 /// Whether arguments and an environment have the bytes that they may have.
@@ -168,11 +170,11 @@ pub fn keep_bytes(args: &[Bytes], envs: &[(Bytes, Bytes)]) -> bool
     args_have_no_zero(args) && (have_identifiers(envs) && have_no_zero(envs))
 }
 
-/// Whether keys and inputs stand in their orders, and no output stands twice.
+/// Whether keys and inputs are sorted, and no output is repeated.
 pub fn keep_orders(envs: &[(Bytes, Bytes)], inputs: &[(Path, Ref)], outputs: &[Path]) -> bool
     ensures { result ≡ (is_strictly_increasing (map (λ env. env.0) envs.now) && (is_strictly_increasing (map (λ input. input.0) inputs.now) && are_distinct outputs.now)) }
 {
-    rise(envs) && (paths_rise(inputs) && paths_are_distinct(outputs))
+    are_sorted(envs) && (paths_are_sorted(inputs) && paths_are_distinct(outputs))
 }
 
 /// The same of the parts of a text.
@@ -193,6 +195,6 @@ pub fn keeps_bytes(raw: &RawParts) -> bool
 pub fn keeps_orders(raw: &RawParts) -> bool
     ensures { result ≡ keeps_orders (parts_of raw.now) }
 {
-    rise(raw.envs.as_slice())
-        && (rise(raw.inputs.as_slice()) && are_distinct(raw.outputs.as_slice()))
+    are_sorted(raw.envs.as_slice())
+        && (are_sorted(raw.inputs.as_slice()) && are_distinct(raw.outputs.as_slice()))
 }

@@ -4,9 +4,9 @@ ghost use Rattle.std.specs.Prelude.{◌≡◌, IfOk};
 ghost use Rattle.thunk_codec.specs.Thunk.{IsThunk};
 ghost use Rattle.thunk_codec.specs.Job.{resolved_size};
 
+use crate::job_size::{args_size, envs_size, inputs_size, outputs_size};
 use crate::path::Path;
 use crate::reference::Ref;
-use crate::resolved::{args_size, envs_size, inputs_size, outputs_size};
 use object_name::{Bytes, Many, TryCopy};
 use std::alloc::{AllocError, Global};
 use std::marker::Model;

@@ -9,7 +9,7 @@ use Rattle.std.proofs.lemmas.Bool.{and_parts, lt-ltb, le-leb, leb-true}
 use Rattle.std.proofs.lemmas.Bool.Decides.{Decides-eqb}
 use Rattle.std.proofs.lemmas.Slice.Eq.{starts_is}
 use Rattle.object_name.specs.Number.{digits_value}
-use Rattle.object_name.proofs.NumberLemmas.{digits_value-decimal, digits-decimal, length-decimal-pos}
+use Rattle.object_name.proofs.PublicLaws.{digits_value-decimal, digits-decimal, length-decimal-pos}
 use Rattle.text_lines.specs.Cuts.{strip_prefix}
 use Rattle.tool_bin.specs.Archive.{field, is_member_name, is_name_byte, padding}
 use Rattle.tool_bin.specs.ArchiveReading.{contents_at, is_slash, is_space, name_in, size_in}

@@ -3,7 +3,7 @@ use Rattle.std.proofs.Common.{◌≡◌, ℕ, suc, ◌<◌, ◌≤◌, ◌^◌, 
 use Rattle.std.proofs.lemmas.Bool.{and_parts, and_from, or_cases, or_parts, or_from, not-true, not_from_false, leb-true, eqb-true, ne_eqb}
 use Rattle.std.specs.Prelude.{nat_le}
 use Rattle.std.specs.List.{list_all}
-use Rattle.object_name.proofs.NumberLemmas.{decimal_digit_at, length-decimal-pos}
+use Rattle.object_name.proofs.PublicLaws.{decimal_digit_at, length-decimal-pos}
 use Rattle.text_lines.specs.Lines.{onto, lines_of}
 use Rattle.text_lines.specs.Blanks.{is_blank, words_of}
 use Rattle.thunk_codec.specs.Thunk.{is_letter, is_digit, is_identifier}

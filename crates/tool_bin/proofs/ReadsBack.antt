@@ -4,7 +4,7 @@ use Rattle.std.proofs.lemmas.Bool.{and_parts, and_from}
 use Rattle.std.proofs.lemmas.List.{append-nil}
 use Rattle.std.proofs.lemmas.List.Folds.{list_all-append}
 use Rattle.std.specs.List.{flat_map, list_all, AllByRecursion}
-use Rattle.object_name.proofs.NumberLemmas.{number_of-decimal}
+use Rattle.object_name.proofs.PublicLaws.{number_of-decimal}
 use Rattle.text_lines.specs.Lines.{lines_of}
 use Rattle.text_lines.specs.Blanks.{words_of}
 use Rattle.text_lines.specs.Maybe.{◌>>=◌}

@@ -2,7 +2,7 @@
 use Rattle.std.proofs.Common.{◌≡◌, ℕ, ◌<◌, ◌≤◌, ◌^◌, ◌-◌, true, List, [], ◌∷◌, ◌++◌, length, take, length-append, Option, Some, None, codes, decimal, nat_eq, bytes_eq, arith}
 use Rattle.std.specs.List.{flat_map, ends_with, AllByRecursion}
 use Rattle.object_name.specs.Number.{number_of}
-use Rattle.object_name.proofs.NumberLemmas.{decimal-number_of}
+use Rattle.object_name.proofs.PublicLaws.{decimal-number_of}
 use Rattle.text_lines.specs.Lines.{lines_of}
 use Rattle.text_lines.specs.Blanks.{words_of}
 use Rattle.thunk_codec.specs.Thunk.{is_identifier}

@@ -3,13 +3,13 @@ use Rattle.std.proofs.Common.{◌≡◌, ◌≤◌, ◌<◌, ◌^◌, ℕ, suc, 
 use Rattle.std.specs.Prelude.{decimal}
 use Rattle.std.proofs.lemmas.Bool.{and_from, not_from_false}
 use Rattle.object_name.specs.Name.{ObjectName}
-use Rattle.object_name.proofs.NumberLemmas.{decimal_digit_at}
+use Rattle.object_name.proofs.PublicLaws.{decimal_digit_at}
 use Rattle.thunk_codec.specs.declared.reference.Ref.TheVariants.{Value, Out}
 use Rattle.thunk_codec.specs.Path.{is_path, path_of, components_of, after_pieces}
-use Rattle.thunk_codec.specs.Reading.{keeps_rules}
+use Rattle.thunk_codec.specs.Thunk.{keeps_rules}
 use Rattle.thunk_codec.specs.Reference.{IsRef}
 use Rattle.thunk_codec.specs.Thunk.{IsThunk, text_of, has_no_zero}
-use Rattle.thunk_codec.proofs.Thunks.{rules_from}
+use Rattle.thunk_codec.proofs.PublicLaws.{rules_from}
 use Rattle.tool_text.specs.declared.fib_thunks.Asked.{Asked}
 use Rattle.tool_text.specs.Fib.{fib_thunk, sum_thunk}
 use Rattle.tool_text.proofs.ThunkTexts.{fib_is_short, sum_is_short}
@@ -25,7 +25,7 @@ digits_have_no_zero n fits = no_zero_from (decimal n) (λ i below. (decimal_digi
 
 fib_keeps_rules : (asked : Asked) (n : ℕ) → n < 2 ^ 64 → keeps_rules (fib_thunk asked n) ≡ true
 unfolding is_path path_of components_of after_pieces
-fib_keeps_rules asked n fits = and_from _ _ (and_from _ _ (digits_have_no_zero n fits) refl) refl
+fib_keeps_rules asked n fits = and_from _ _ (and_from _ _ (and_from _ _ (digits_have_no_zero n fits) refl) refl) refl
 
 sum_keeps_rules : (asked : Asked) (left right : ObjectName) → keeps_rules (sum_thunk asked left right) ≡ true
 unfolding is_path path_of components_of after_pieces

@@ -3,7 +3,7 @@ use Rattle.std.proofs.Common.{◌≡◌, ℕ, ◌^◌, ◌<◌, ◌≤◌, List,
 use Rattle.std.specs.Prelude.{codes, decimal}
 use Rattle.std.proofs.lemmas.Fmt.{length-decimal-le, decimal_digit}
 use Rattle.object_name.specs.Name.{ObjectName, IsName, max_size, spelling}
-use Rattle.object_name.proofs.NameLemmas.{length-spelling}
+use Rattle.object_name.proofs.PublicLaws.{length-spelling}
 use Rattle.thunk_codec.specs.Thunk.{text_of, counted, line, head_line, end_line}
 use Rattle.tool_text.specs.declared.fib_thunks.Asked.{Asked}
 use Rattle.tool_text.specs.Fib.{fib_thunk, sum_thunk}

@@ -1,5 +1,6 @@
 use Rattle.std.proofs.Common.{sym, ◌∙◌}
-use Rattle.thunk_codec.specs.Raw.{parts_of, keeps_bytes}
+use Rattle.thunk_codec.specs.Raw.{parts_of}
+use Rattle.thunk_codec.specs.Thunk.{keeps_bytes}
 use Rattle.thunk_codec.proofs.Made.{not_kept, made_thunk}
 use Rattle.thunk_codec.proofs.decoding.thunk_with.Goals as goal
 

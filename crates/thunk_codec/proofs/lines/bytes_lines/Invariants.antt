@@ -1,6 +1,6 @@
 use Rattle.std.proofs.Common.{length}
 use Rattle.thunk_codec.specs.Reading.{bytes_at}
-use Rattle.thunk_codec.proofs.Loops.{Going}
+use Rattle.thunk_codec.proofs.LinesReadSoFar.{Going}
 use Rattle.thunk_codec.proofs.lines.bytes_lines.Given as goal
 
 abbrev pub invariant-lines : goal.invariant-lines

@@ -1,6 +1,6 @@
 use Rattle.thunk_codec.specs.Reading.{env_at}
 use Rattle.thunk_codec.proofs.Fields.{env_reader}
-use Rattle.thunk_codec.proofs.Loops.{lines_go_on, lines_shorten, lines_refused, going_ends}
+use Rattle.thunk_codec.proofs.LinesReadSoFar.{lines_go_on, lines_shorten, lines_refused, going_ends}
 use Rattle.thunk_codec.proofs.lines.env_lines.Goals as goal
 
 pub returns-in-Err : goal.returns-in-Err

@@ -1,10 +1,10 @@
 use Rattle.std.proofs.Common.{length}
-use Rattle.thunk_codec.specs.Reading.{input_at}
-use Rattle.thunk_codec.proofs.Loops.{Going}
+use Rattle.thunk_codec.specs.Reading.{input_line_at}
+use Rattle.thunk_codec.proofs.LinesReadSoFar.{Going}
 use Rattle.thunk_codec.proofs.lines.input_lines.Given as goal
 
 abbrev pub invariant-lines : goal.invariant-lines
-invariant-lines l = Going 105 input_at l.bytes l.lines l.rest
+invariant-lines l = Going 105 input_line_at l.bytes l.lines l.rest
 
 abbrev pub decreases-lines : goal.decreases-lines
 decreases-lines l = length l.rest

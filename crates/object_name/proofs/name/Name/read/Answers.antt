@@ -3,13 +3,13 @@ use Rattle.object_name.specs.Name.{ObjectName}
 use Rattle.object_name.proofs.NameLemmas.{HasParts-spelled, length-spelling, none_named, some_named, spelling-HasParts, size_part}
 use Rattle.object_name.proofs.name.Name.read.Goals as goal
 
-pub returns-then-text-ne-SPELLING-clause-only : goal.returns-then-text-ne-SPELLING-clause-only
-returns-then-text-ne-SPELLING-clause-only c n is e =
+pub returns-then-text-ne-SPELLING_LEN-clause-only : goal.returns-then-text-ne-SPELLING_LEN-clause-only
+returns-then-text-ne-SPELLING_LEN-clause-only c n is e =
     let len = ap length e ∙ length-spelling n is in
-    absurd (c.if-text-ne-SPELLING.true len)
+    absurd (c.if-text-ne-SPELLING_LEN.true len)
 
-pub returns-then-text-ne-SPELLING-clause-exact : goal.returns-then-text-ne-SPELLING-clause-exact
-returns-then-text-ne-SPELLING-clause-exact c = none_named c.args.text.now (returns-then-text-ne-SPELLING-clause-only c)
+pub returns-then-text-ne-SPELLING_LEN-clause-exact : goal.returns-then-text-ne-SPELLING_LEN-clause-exact
+returns-then-text-ne-SPELLING_LEN-clause-exact c = none_named c.args.text.now (returns-then-text-ne-SPELLING_LEN-clause-only c)
 
 pub returns-in_err-kind-clause-only : goal.returns-in_err-kind-clause-only
 returns-in_err-kind-clause-only c n is e =
@@ -47,7 +47,7 @@ returns-clause-found c =
     let size = c.in_ok-size.ensures.found in
     let n : ObjectName = record { kind = c.in_ok-kind.kind; digest = c.in_ok-digest.digest; size = c.in_ok-size.size } in (
       record { digest = digest.2; bytes = digest.1; size = size.1 },
-      spelling-HasParts c.args.text.now n c.if-text-ne-SPELLING.false
+      spelling-HasParts c.args.text.now n c.if-text-ne-SPELLING_LEN.false
           (record { letter = c.in_ok-kind.ensures.found; digest = digest.0; size = sym (size_part c.args.text.now) ∙ size.0 }),
     )
 

@@ -1,4 +1,4 @@
-//! Paths that stand in a text as they are.
+//! Paths that are canonical: each stands in a text as its normal path.
 
 ghost use Rattle.std.specs.Prelude.{◌≡◌, Some, map};
 ghost use Rattle.std.specs.List.{list_all};
@@ -11,8 +11,8 @@ use crate::reference::Ref;
 use object_name::{Bytes, Many};
 use std::alloc::Global;
 
-/// The path that a text is as it stands.
-fn path_as_is(alloc: Global, text: &[u8]) -> Result<Path, DecodeFault>
+/// The path that a text is, where it is canonical.
+fn canonical_path(alloc: Global, text: &[u8]) -> Result<Path, DecodeFault>
     ensures { Gives (λ path. path) result (only_if (is_path text.now) text.now) }
 {
     let Some(path) = Path::read(alloc, text)? else {
@@ -24,20 +24,20 @@ fn path_as_is(alloc: Global, text: &[u8]) -> Result<Path, DecodeFault>
     Ok(path)
 }
 
-/// The paths that some texts are as they stand.
-pub fn paths_as_are(alloc: Global, texts: &[Bytes]) -> Result<Many<Path>, DecodeFault>
+/// The paths that some texts are, where each is canonical.
+pub fn canonical_paths(alloc: Global, texts: &[Bytes]) -> Result<Many<Path>, DecodeFault>
     ensures { Gives (λ paths. paths) result (only_if (list_all is_path texts.now) texts.now) }
 {
     let mut paths = Many::new(alloc);
     'texts: for text in texts {
-        let path = path_as_is(alloc, text.as_slice())?;
+        let path = canonical_path(alloc, text.as_slice())?;
         paths.push(path)?;
     }
     Ok(paths)
 }
 
-/// Inputs, whose texts are paths as they stand.
-pub fn inputs_as_are(
+/// Inputs, where the text of each is a canonical path.
+pub fn canonical_inputs(
     alloc: Global,
     inputs: &[(Bytes, Ref)],
 ) -> Result<Many<(Path, Ref)>, DecodeFault>
@@ -45,7 +45,7 @@ pub fn inputs_as_are(
 {
     let mut made = Many::new(alloc);
     'inputs: for (text, reference) in inputs {
-        let path = path_as_is(alloc, text.as_slice())?;
+        let path = canonical_path(alloc, text.as_slice())?;
         made.push((path, *reference))?;
     }
     Ok(made)

@@ -1,5 +1,5 @@
 use Rattle.std.proofs.Common.{◌≡◌, ◌+◌, length, sum_by, take}
-use Rattle.thunk_codec.proofs.resolved.lengths_size.Given as goal
+use Rattle.thunk_codec.proofs.job_size.lengths_size.Given as goal
 
 abbrev pub invariant-loop-path : goal.invariant-loop-path
 invariant-loop-path l = l.size ≡ sum_by (λ input. 8 + length input.0 + input.1) (take l.path-index l.inputs)

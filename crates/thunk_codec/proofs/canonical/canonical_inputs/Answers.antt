@@ -1,6 +1,6 @@
 use Rattle.std.proofs.lemmas.Result.{err_from_is_err_and}
-use Rattle.thunk_codec.proofs.AsAre.{input_refused}
-use Rattle.thunk_codec.proofs.in_place.inputs_as_are.Goals as goal
+use Rattle.thunk_codec.proofs.CanonicalPaths.{input_refused}
+use Rattle.thunk_codec.proofs.canonical.canonical_inputs.Goals as goal
 
 pub returns-in_err-path : goal.returns-in_err-path
 returns-in_err-path c =

@@ -1,8 +1,8 @@
 use Rattle.std.proofs.Common.{ap, sym, ◌∙◌, List, ℕ}
 use Rattle.std.specs.Prelude.{bytes_eq}
 use Rattle.std.proofs.lemmas.Bool.{not-true}
-use Rattle.thunk_codec.proofs.AsAre.{no_path, other_path}
-use Rattle.thunk_codec.proofs.in_place.path_as_is.Goals as goal
+use Rattle.thunk_codec.proofs.CanonicalPaths.{no_path, other_path}
+use Rattle.thunk_codec.proofs.canonical.canonical_path.Goals as goal
 
 pub returns-in_default : goal.returns-in_default
 returns-in_default c = no_path c.args.text.now c.in_ok-path.field-0 c.in_ok-path.ensures c.in_default.is

@@ -5,23 +5,16 @@ use Rattle.thunk_codec.specs.declared.decoding.DecodeFault.{DecodeFault}
 use Rattle.thunk_codec.specs.declared.decoding.DecodeFault.TheVariants.{BadThunk, Memory}
 use Rattle.thunk_codec.specs.Gives.{Refuses}
 use Rattle.text_lines.specs.Maybe.{◌>>=◌}
+use Rattle.text_lines.proofs.PublicLaws.{with_prefix, with_prefix-more}
 use Rattle.thunk_codec.specs.Reading.{lines_at, all_lines_at}
 use Rattle.thunk_codec.proofs.Fields.{IsReader}
 use Rattle.thunk_codec.proofs.Texts.{begins, begins_with}
-
--- what was read before, and what is still read
-abbrev pub with_prefix : {A : Type 0} → List A → Option (List A × List ℕ) → Option (List A × List ℕ)
-with_prefix prefix read = read >>= λ x. Some (prefix ++ x.0, x.1)
 
 -- some lines are read, and the rest of the bytes gives what is left
 pub record Going {A : Type 0} (letter : ℕ) (said_at : List ℕ → Option (A × List ℕ)) (bytes : List ℕ) (prefix : List A) (rest : List ℕ) : Type 0 where
   pub most : ℕ
   pub room : length rest ≤ most
   pub goes_on : with_prefix prefix (lines_at letter said_at most rest) ≡ all_lines_at letter said_at bytes
-
-with_prefix-more : {A : Type 0} (prefix : List A) (x : A) (read : Option (List A × List ℕ)) → with_prefix prefix (read >>= λ others. Some (x ∷ others.0, others.1)) ≡ with_prefix (prefix ++ x ∷ []) read
-with_prefix-more prefix x (Some others) = ap (λ (v : List _). Some (v, others.1)) (sym (append_assoc prefix (x ∷ []) others.0))
-with_prefix-more prefix x None = refl
 
 -- a line takes a byte at least
 line_is_longer : {A : Type 0} {said_at : List ℕ → Option (A × List ℕ)} {said : A → List ℕ} {P Q : A → Type 0} (reader : IsReader said_at said P Q) (letter : ℕ) (rest : List ℕ) (x : A) (after : List ℕ)

@@ -1,6 +1,6 @@
 use Rattle.std.proofs.Common.{◌≡◌, ◌+◌, length, sum_by, take}
 use Rattle.thunk_codec.specs.Job.{ref_name}
-use Rattle.thunk_codec.proofs.resolved.inputs_size.Given as goal
+use Rattle.thunk_codec.proofs.job_size.inputs_size.Given as goal
 
 abbrev pub invariant-loop-path : goal.invariant-loop-path
 invariant-loop-path l = l.size ≡ sum_by (λ input. 8 + length input.0 + (ref_name input.1).size) (take l.path-index l.inputs)
