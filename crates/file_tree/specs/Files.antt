@@ -1,12 +1,9 @@
 -- A tree of files: a map from normal paths to bytes.
 use Rattle.std.specs.Prelude.{◌≡◌, ◌⊎◌, ◌≤◌, ℕ, List, [], ◌∷◌, length, nat_le, bytes_eq, Option, Some, None, if◌then◌else◌}
 use Rattle.object_name.specs.Name.{max_size}
+pub use Rattle.thunk_codec.specs.Files.{Files}
 use Rattle.file_tree.specs.declared.tree.FileRead.{FileRead}
 use Rattle.file_tree.specs.declared.tree.FileRead.TheVariants.{Absent, Bytes, TooLong}
-
--- a map, by what it has at each path
-abbrev pub Files : Type 0
-Files = List ℕ → Option (List ℕ)
 
 -- the map with no files
 abbrev pub no_files : Files

@@ -4,6 +4,7 @@ pub mod Reference
 pub mod Thunk
 pub mod Reading
 pub mod Job
+pub mod Files
 pub mod Outcome
 pub mod Gives
 pub mod Raw
