@@ -1,10 +1,10 @@
 -- The lines of a file in order, as a loop takes them.
 use Rattle.std.proofs.Common.{◌≡◌, ℕ, ◌-◌, List, Result}
+use Rattle.thunk_codec.specs.Files.{Files}
 use Rattle.text_lines.specs.Lines.{lines_of}
 use Rattle.tool_text.specs.declared.failure.Failure.{Failure}
 use Rattle.tool_text.specs.declared.groups.Group.{Group}
 use Rattle.tool_text.specs.Directive.{Target}
-use Rattle.tool_text.specs.Including.{Files}
 use Rattle.tool_text.specs.Preprocess.{State, ran, going_into, processed}
 
 -- how a file with so many levels goes into others

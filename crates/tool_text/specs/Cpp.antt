@@ -7,13 +7,13 @@ use Rattle.thunk_codec.specs.declared.job.Outcome.{Outcome}
 use Rattle.thunk_codec.specs.declared.job.Outcome.TheVariants.{Done, Failed}
 use Rattle.thunk_codec.specs.Folder.{is_folder}
 use Rattle.thunk_codec.specs.Job.{input_at}
+use Rattle.text_lines.specs.Cuts.{split_at_byte}
 use Rattle.text_lines.specs.Maybe.{◌>>=◌, ◌>>◌, check}
 use Rattle.thunk_codec.specs.Thunk.{is_identifier}
+use Rattle.thunk_codec.specs.Files.{files_of}
 use Rattle.tool_text.specs.declared.failure.Failure.{Failure}
 use Rattle.tool_text.specs.declared.failure.Failure.TheVariants.{BadDirective, HeaderNotFound, TooDeep, TooManyLines, OutputTooLong}
-use Rattle.tool_text.specs.Directive.{before_byte}
 use Rattle.tool_text.specs.Expand.{Macros, with_macro}
-use Rattle.tool_text.specs.Including.{files_of}
 use Rattle.tool_text.specs.Preprocess.{State, preprocessed}
 
 -- the include folders and the definitions that arguments give
@@ -29,7 +29,7 @@ no_settings = record { folders = []; macros = λ name. None }
 abbrev pub folder_as_is : List ℕ → Option (List ℕ)
 folder_as_is text = if is_folder text then Some text else None
 
--- one more include folder, behind the others
+-- one more include folder, after the others
 abbrev pub with_folder : List ℕ → Settings → Option Settings
 with_folder text settings = do
   folder ← folder_as_is text
@@ -38,9 +38,9 @@ with_folder text settings = do
 -- one more definition: an identifier, `=` and its text
 abbrev pub with_definition : List ℕ → Settings → Option Settings
 with_definition text settings = do
-  name ← before_byte 61 text
-  check (is_identifier name)
-  Some (record settings { macros = with_macro name (Some (drop (length name + 1) text)) settings.macros })
+  cut ← split_at_byte 61 text
+  check (is_identifier cut.0)
+  Some (record settings { macros = with_macro cut.0 (Some cut.1) settings.macros })
 
 -- one identifier forgotten
 abbrev pub without_definition : List ℕ → Settings → Option Settings
@@ -48,7 +48,7 @@ without_definition name settings = do
   check (is_identifier name)
   Some (record settings { macros = with_macro name None settings.macros })
 
--- an argument behind the first: `-I`, `-D` or `-U` and what belongs to it
+-- an argument after the first: `-I`, `-D` or `-U` and what belongs to it
 unfoldable pub with_argument : List ℕ → Settings → Option Settings
 with_argument arg settings =
     if starts_with nat_eq arg (codes "-I") then with_folder (drop 2 arg) settings
@@ -56,7 +56,7 @@ with_argument arg settings =
     else if starts_with nat_eq arg (codes "-U") then without_definition (drop 2 arg) settings
     else None
 
--- the arguments behind the first, in order
+-- the arguments after the first, in order
 abbrev pub with_arguments : List (List ℕ) → Settings → Option Settings
 with_arguments [] settings = Some settings
 with_arguments (arg ∷ args) settings = with_argument arg settings >>= λ now. with_arguments args now

@@ -1,7 +1,8 @@
 -- The directives of the preprocessor: lines whose first byte that isn't a blank is `#`.
 use Rattle.std.specs.Prelude.{ℕ, List, [], ◌∷◌, ◌==◌, ◌||◌, ◌&&◌, not, nat_le, Bool, Option, Some, None, length, drop, bytes_eq, codes, if◌then◌else◌}
-use Rattle.std.specs.List.{list_any, take_while}
+use Rattle.std.specs.List.{take_while}
 use Rattle.object_name.specs.Number.{number_of}
+use Rattle.text_lines.specs.Cuts.{split_at_byte, strip_prefix}
 use Rattle.text_lines.specs.Maybe.{◌>>=◌, ◌>>◌, check}
 use Rattle.thunk_codec.specs.Thunk.{is_letter, is_digit, is_identifier}
 use Rattle.text_lines.specs.Blanks.{skip_blanks, trimmed, at_blank}
@@ -25,35 +26,24 @@ pub data Directive : Type 0 where
   Endif : Bool → Directive
   Unknown : Directive
 
--- what stands behind the longest run of such bytes at the beginning
-abbrev pub behind_while : (ℕ → Bool) → List ℕ → List ℕ
-behind_while test text = drop (length (take_while test text)) text
+-- what comes after the longest run of such bytes at the beginning
+abbrev pub after_while : (ℕ → Bool) → List ℕ → List ℕ
+after_while test text = drop (length (take_while test text)) text
 
--- an ASCII letter
+-- whether a byte is an ASCII letter
 abbrev pub is_alphabetic : ℕ → Bool
 is_alphabetic byte = (nat_le 65 byte && nat_le byte 90) || (nat_le 97 byte && nat_le byte 122)
 
--- a letter, a digit or `_`
+-- whether a byte is a letter, a digit or `_`
 abbrev pub is_word_byte : ℕ → Bool
 is_word_byte byte = is_letter byte || is_digit byte
 
--- what stands behind a byte, where the text begins with it
-abbrev pub behind_byte : ℕ → List ℕ → Option (List ℕ)
-behind_byte byte [] = None
-behind_byte byte (first ∷ text) = if first == byte then Some text else None
-
--- what stands before the first such byte, where there is one
-abbrev pub before_byte : ℕ → List ℕ → Option (List ℕ)
-before_byte byte text = do
-  check (list_any (λ other. other == byte) text)
-  Some (take_while (λ other. not (other == byte)) text)
-
--- the text between the prefix and a closing byte; it isn't empty, and what stands behind that byte is passed over
+-- the text before a closing byte; it isn't empty, and what comes after that byte is passed over
 abbrev pub closed_by : ℕ → List ℕ → Option (List ℕ)
 closed_by byte text = do
-  file ← before_byte byte text
-  check (not (bytes_eq file []))
-  Some file
+  cut ← split_at_byte byte text
+  check (not (bytes_eq cut.0 []))
+  Some cut.0
 
 -- `"F"` or `<F>`
 abbrev pub target_of : List ℕ → Option Target
@@ -74,14 +64,14 @@ abbrev pub definition_in : List ℕ → Option (List ℕ × List ℕ)
 definition_in text = do
   let name = take_while is_word_byte text in do
     check (is_identifier name)
-    check (at_blank (behind_while is_word_byte text))
-    Some (name, trimmed (behind_while is_word_byte text))
+    check (at_blank (after_while is_word_byte text))
+    Some (name, trimmed (after_while is_word_byte text))
 
--- nothing but blanks
+-- whether there is nothing but blanks
 abbrev pub is_all_blank : List ℕ → Bool
 is_all_blank text = bytes_eq (skip_blanks text) []
 
--- the directive of a word and of what stands behind it
+-- the directive of a word and of what comes after it
 unfoldable pub worded : List ℕ → List ℕ → Directive
 worded word rest =
     if bytes_eq word (codes "include") then Include (target_of (skip_blanks rest))
@@ -94,10 +84,10 @@ worded word rest =
     else if bytes_eq word (codes "endif") then Endif (is_all_blank rest)
     else Unknown
 
--- the directive of what stands behind `#` and blanks
+-- the directive of what comes after `#` and blanks
 unfoldable pub marked : List ℕ → Directive
 marked [] = Empty
-marked (byte ∷ text) = worded (take_while is_alphabetic (byte ∷ text)) (behind_while is_alphabetic (byte ∷ text))
+marked (byte ∷ text) = worded (take_while is_alphabetic (byte ∷ text)) (after_while is_alphabetic (byte ∷ text))
 
 -- what a line says
 unfoldable pub directive : Option (List ℕ) → Directive
@@ -106,4 +96,4 @@ directive (Some rest) = marked (skip_blanks rest)
 
 -- the same of the whole line
 abbrev pub directive_of : List ℕ → Directive
-directive_of line = directive (behind_byte 35 (skip_blanks line))
+directive_of line = directive (strip_prefix (codes "#") (skip_blanks line))

@@ -13,7 +13,7 @@ Macros = List ℕ → Option (List ℕ)
 abbrev pub with_macro : List ℕ → Option (List ℕ) → Macros → Macros
 with_macro name text macros = λ other. if bytes_eq name other then text else macros other
 
--- the first byte is a letter, a digit or `_`
+-- whether the first byte is a letter, a digit or `_`
 abbrev pub at_word : List ℕ → Bool
 at_word [] = false
 at_word (byte ∷ bytes) = is_word_byte byte

@@ -10,6 +10,7 @@ use Rattle.thunk_codec.specs.declared.job.Outcome.{Outcome}
 use Rattle.thunk_codec.specs.declared.job.Outcome.TheVariants.{Done, Failed}
 use Rattle.thunk_codec.specs.declared.reference.Ref.TheVariants.{Value, Out}
 use Rattle.text_lines.specs.Maybe.{◌>>=◌, ◌>>◌, check}
+use Rattle.thunk_codec.specs.Job.{only_input}
 use Rattle.thunk_codec.specs.Thunk.{Parts, text_of}
 use Rattle.tool_text.specs.declared.fib_thunks.Asked.{Asked}
 use Rattle.tool_text.specs.Numbers.{number_line}
@@ -18,18 +19,18 @@ use Rattle.tool_text.specs.Numbers.{number_line}
 abbrev pub fib_outputs : List (List ℕ)
 fib_outputs = codes "out" ∷ codes "left" ∷ codes "right" ∷ []
 
--- the number that a text says, a canonical decimal number of 0 to 93
-abbrev pub place_in : List ℕ → Option ℕ
-place_in text = do
+-- the index of a Fibonacci number that a text says, a canonical decimal number of 0 to 93
+abbrev pub index_in : List ℕ → Option ℕ
+index_in text = do
   n ← number_of text
   check (nat_le n 93)
   Some n
 
--- the number that the arguments say: there is one argument
-abbrev pub place_of : List (List ℕ) → Option ℕ
-place_of [] = None
-place_of (arg ∷ []) = place_in arg
-place_of (arg ∷ other ∷ others) = None
+-- the index that the arguments say: there is one argument
+abbrev pub index_of : List (List ℕ) → Option ℕ
+index_of [] = None
+index_of (arg ∷ []) = index_in arg
+index_of (arg ∷ other ∷ others) = None
 
 -- the name of a value: of bytes that are no thunk's and within the size of an object
 abbrev pub value_name : List ℕ → Option ObjectName
@@ -40,17 +41,15 @@ value_name bytes = do
 
 -- the name of the input `add`: there is no other input
 abbrev pub add_name : List (List ℕ × List ℕ) → Option ObjectName
-add_name [] = None
-add_name (input ∷ []) = do
-  check (bytes_eq input.0 (codes "add"))
-  value_name input.1
-add_name (input ∷ other ∷ others) = None
+add_name inputs = do
+  bytes ← only_input (codes "add") inputs
+  value_name bytes
 
 -- what a job asks for, where its outputs, argument, function and input are of this form
 abbrev pub asked_of : Job → Option Asked
 asked_of job = do
   check (pointwise bytes_eq job.outputs fib_outputs)
-  n ← place_of job.args
+  n ← index_of job.args
   function ← value_name job.function
   add ← add_name job.inputs
   Some (record { number = n; function = function; add = add })

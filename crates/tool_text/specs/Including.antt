@@ -1,18 +1,9 @@
 -- Where an included file is looked for.
 use Rattle.std.specs.Prelude.{ℕ, List, [], ◌∷◌, ◌++◌, Option, Some, None, map, codes, if◌then◌else◌}
 use Rattle.std.specs.Option.{is_some}
-use Rattle.thunk_codec.specs.declared.job.Job.{Job}
-use Rattle.thunk_codec.specs.Job.{input_at}
+use Rattle.thunk_codec.specs.Files.{Files}
 use Rattle.thunk_codec.specs.Folder.{parent_of, joined_from}
 use Rattle.tool_text.specs.Directive.{Target, Quoted, Angled}
-
--- the files that are there, by their paths
-abbrev pub Files : Type 0
-Files = List ℕ → Option (List ℕ)
-
--- the inputs of a job, by their paths
-abbrev pub files_of : Job → Files
-files_of job = λ path. input_at path job.inputs
 
 -- the folders in which a file is looked for, as asked for by a file in the first: quoted from that folder on, angled without it
 abbrev pub folders_for : List (List ℕ) → List ℕ → Target → List (List ℕ)
@@ -24,16 +15,11 @@ abbrev pub asked_file : Target → List ℕ
 asked_file (Quoted file) = file
 asked_file (Angled file) = file
 
--- the places of an included file, in the order in which they are looked at: None where the text is no path from that folder
+-- the candidates for an included file, in the order in which they are looked at: None where the text is no path from that folder
 unfoldable pub candidates : List (List ℕ) → List ℕ → Target → List (Option (List ℕ))
 candidates folders path target = map (λ folder. joined_from folder (asked_file target)) (folders_for folders path target)
 
--- a candidate, where it is a path and is there
-abbrev pub there : Files → Option (List ℕ) → Option (List ℕ)
-there files None = None
-there files (Some path) = if is_some (files path) then Some path else None
-
--- the first candidate that is a path and is there
+-- the first candidate that is a path where a file is
 abbrev pub first_there : Files → List (Option (List ℕ)) → Option (List ℕ)
 first_there files [] = None
 first_there files (None ∷ others) = first_there files others

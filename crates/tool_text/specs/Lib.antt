@@ -1,5 +1,4 @@
 pub mod Numbers
-pub mod Limit
 pub mod Cat
 pub mod Fail
 pub mod Add
@@ -8,12 +7,9 @@ pub mod Trying
 pub mod Tries
 pub mod Directive
 pub mod Expand
-pub mod MacroTable
 pub mod Including
 pub mod IncludeLine
 pub mod Seen
-pub mod OpenGroups
 pub mod Preprocess
-pub mod Standing
 pub mod Cpp
-pub mod Arguments
+pub mod Views

@@ -2,13 +2,14 @@
 use Rattle.std.specs.Prelude.{ℕ, suc, zero, ◌+◌, List, [], ◌∷◌, ◌++◌, ◌==◌, ◌&&◌, nat_le, not, Bool, true, false, Option, Some, None, Result, Ok, Err, length, unwrap_or, if◌then◌else◌}
 use Rattle.std.specs.Option.{is_some}
 use Rattle.object_name.specs.Name.{max_size}
+use Rattle.thunk_codec.specs.Files.{Files}
 use Rattle.text_lines.specs.Lines.{lines_of}
 use Rattle.tool_text.specs.declared.failure.Failure.{Failure}
 use Rattle.tool_text.specs.declared.failure.Failure.TheVariants.{BadDirective, HeaderNotFound, TooDeep, TooManyLines, OutputTooLong}
 use Rattle.tool_text.specs.declared.groups.Group.{Group}
 use Rattle.tool_text.specs.Directive.{Directive, Text, Empty, Include, Define, Undef, Ifdef, Ifndef, If, Else, Endif, Unknown, Target, directive_of}
 use Rattle.tool_text.specs.Expand.{Macros, with_macro, expanded}
-use Rattle.tool_text.specs.Including.{Files, candidates, first_there}
+use Rattle.tool_text.specs.Including.{candidates, first_there}
 use Rattle.tool_text.specs.Trying.{◌>>=◌, given}
 
 -- what is defined, how many lines were processed, what was written
@@ -23,7 +24,7 @@ pub record Taken : Type 0 where
   pub state : State
   pub target : Option Target
 
--- lines are written and directives have their effect
+-- whether lines are written and directives have their effect
 abbrev pub is_active : List Group → Bool
 is_active [] = true
 is_active (group ∷ groups) = group.active

@@ -6,7 +6,7 @@ use Rattle.tool_text.specs.declared.directive.Directive.{Directive as BorrowedDi
 use Rattle.tool_text.specs.declared.directive.Directive.TheVariants as line
 use Rattle.tool_text.specs.declared.include_lines.IncludeLine.{IncludeLine as BorrowedLine}
 use Rattle.tool_text.specs.declared.include_lines.IncludeLine.TheVariants as file
-use Rattle.tool_text.specs.IncludeLine.{IncludeForm, Other, Asked, Computed}
+use Rattle.tool_text.specs.IncludeLine.{IncludeForm, Other, Includes, Computed}
 use Rattle.tool_text.specs.Directive.{Target, Quoted, Angled, Directive, Text, Empty, Include, Define, Undef, Ifdef, Ifndef, If, Else, Endif, Unknown}
 
 -- the file that is asked for
@@ -31,6 +31,6 @@ seen line.Unknown = Unknown
 -- what a line says of another file
 abbrev pub include_seen : BorrowedLine → IncludeForm
 include_seen file.Other = Other
-include_seen (file.Quoted name) = Asked (Quoted name.now)
-include_seen (file.Angled name) = Asked (Angled name.now)
+include_seen (file.Quoted name) = Includes (Quoted name.now)
+include_seen (file.Angled name) = Includes (Angled name.now)
 include_seen file.Computed = Computed

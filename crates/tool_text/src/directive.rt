@@ -7,9 +7,9 @@ ghost use Rattle.tool_text.specs.Directive as line;
 ghost use Rattle.tool_text.specs.Directive.{closed_by, identifier_in, definition_in, is_all_blank, directive_of};
 ghost use Rattle.tool_text.specs.Seen.{target_seen, seen};
 
-use crate::runs::{before_byte, behind_byte, split_letters, split_word};
+use crate::prefixes::{split_letters, split_word};
 use object_name::read_number;
-use text_lines::{is_blank, skip_blanks, trim_blanks};
+use text_lines::{is_blank, skip_blanks, split_at_byte, strip_prefix, trim_blanks};
 use thunk_codec::is_identifier;
 
 /// The file that an include line asks for.
@@ -22,7 +22,7 @@ pub enum Target<'a> {
 }
 
 /// What a line says. A directive that isn't of its form has nothing, or false.
-#[derive(Clone, Copy, Debug, Drop)]
+#[derive(Drop)]
 pub(crate) enum Directive<'a> {
     Text,
     Empty,
@@ -37,11 +37,11 @@ pub(crate) enum Directive<'a> {
     Unknown,
 }
 
-/// The text in front of a closing byte, where it isn't empty.
+/// The text before a closing byte, where it isn't empty.
 fn closed_by(byte: u8, text: &[u8]) -> Option<&[u8]>
     ensures { option_copied result ≡ closed_by byte text.now }
 {
-    let file = before_byte(byte, text)?;
+    let (file, _) = split_at_byte(byte, text)?;
     if file.is_empty() {
         return None;
     }
@@ -71,7 +71,7 @@ fn identifier_in(text: &[u8]) -> Option<&[u8]>
     Some(name)
 }
 
-/// A text is at its end, or begins with a blank.
+/// Whether a text is at its end or begins with a blank.
 fn at_blank(text: &[u8]) -> bool
     ensures { result ≡ at_blank text.now }
 {
@@ -95,14 +95,14 @@ fn definition_in(text: &[u8]) -> Option<(&[u8], &[u8])>
     Some((name, trim_blanks(rest)))
 }
 
-/// Nothing but blanks.
+/// Whether there is nothing but blanks.
 fn is_all_blank(text: &[u8]) -> bool
     ensures { result ≡ is_all_blank text.now }
 {
     skip_blanks(text).is_empty()
 }
 
-/// The directive of a word and of what stands behind it.
+/// The directive of a word and of what comes after it.
 #[tactic(auto, unfolding(crate::specs::Directive::worded))]
 fn worded<'a>(word: &[u8], rest: &'a [u8]) -> Directive<'a>
     ensures { seen result ≡ line.worded word.now rest.now }
@@ -134,7 +134,7 @@ fn worded<'a>(word: &[u8], rest: &'a [u8]) -> Directive<'a>
     Directive::Unknown
 }
 
-/// The directive of what stands behind `#` and blanks.
+/// The directive of what comes after `#` and blanks.
 #[tactic(auto, unfolding(crate::specs::Directive::marked))]
 fn marked(text: &[u8]) -> Directive<'_>
     ensures { seen result ≡ line.marked text.now }
@@ -151,7 +151,7 @@ fn marked(text: &[u8]) -> Directive<'_>
 pub(crate) fn directive_of(text: &[u8]) -> Directive<'_>
     ensures { seen result ≡ directive_of text.now }
 {
-    match behind_byte(b'#', skip_blanks(text)) {
+    match strip_prefix(b"#", skip_blanks(text)) {
         Some(rest) => marked(skip_blanks(rest)),
         None => Directive::Text,
     }

@@ -4,7 +4,7 @@ ghost use Rattle.std.specs.Prelude.{◌≡◌};
 ghost use Rattle.tool_text.specs.Cpp.{failure_status};
 
 /// Why a source can't be preprocessed.
-#[derive(Clone, Copy, Debug, PartialEq, Eq, Drop)]
+#[derive(Clone, Copy, Debug, Drop)]
 pub enum Failure {
     /// A directive that is unknown, not of its form, or doesn't fit the groups around it.
     BadDirective,
@@ -12,7 +12,7 @@ pub enum Failure {
     HeaderNotFound,
     /// A file within more than 200 others.
     TooDeep,
-    /// A line behind the 1,048,576th.
+    /// A line after the 1,048,576th.
     TooManyLines,
     /// A line that brings the output over 16,777,216 bytes.
     OutputTooLong,

@@ -29,7 +29,7 @@ fn write_name(name: &Name, out: &mut Bytes) -> Result<(), AllocError>
     out.append(&text)
 }
 
-/// Appends a number, with the number of its digits in front.
+/// Appends a number, with the number of its digits before it.
 fn write_counted(alloc: Global, number: u64, out: &mut Bytes) -> Result<(), AllocError>
     ensures { OnOk result (out.new ≡ out.old ++ counted (decimal number)) }
 {

@@ -2,16 +2,16 @@
 
 ghost use Rattle.std.specs.Prelude.{◌≡◌, IfOk, bytes_eq};
 ghost use Rattle.std.specs.Cmp.Lexicographic.{pointwise};
-ghost use Rattle.tool_text.specs.Fib.{add_name, asked_of, contents_of, fib_outcome, fib_outputs, place_of, value_name};
+ghost use Rattle.tool_text.specs.Fib.{add_name, asked_of, contents_of, fib_outcome, fib_outputs, index_of, value_name};
 
 use crate::fib_thunks::{Asked, thunk_texts};
 use crate::numbers::number_line;
 use crate::status::BAD_FORM;
 use object_name::{Bytes, Kind, Many, Name, name_of, read_number};
 use std::alloc::{AllocError, Global};
-use thunk_codec::{Job, Outcome, Path};
+use thunk_codec::{Job, Outcome, Path, only_input};
 
-/// The greatest place of a Fibonacci number that is below 2^64.
+/// The greatest index of a Fibonacci number that is below 2^64.
 const GREATEST: u64 = 93;
 
 /// Whether these are the outputs.
@@ -28,9 +28,9 @@ fn are_outputs(outputs: &[Path]) -> bool
     }
 }
 
-/// The number that some arguments say.
-fn place_of(args: &[Bytes]) -> Option<u64>
-    ensures { result ≡ place_of args.now }
+/// The index that some arguments say.
+fn index_of(args: &[Bytes]) -> Option<u64>
+    ensures { result ≡ index_of args.now }
 {
     let [arg] = args else {
         return None;
@@ -59,13 +59,7 @@ fn value_name(bytes: &[u8]) -> Option<Name>
 fn add_name(inputs: &[(Path, Bytes)]) -> Option<Name>
     ensures { result ≡ add_name inputs.now }
 {
-    let [input] = inputs else {
-        return None;
-    };
-    if input.0.text() != b"add".as_slice() {
-        return None;
-    }
-    value_name(input.1.as_slice())
+    value_name(only_input(inputs, b"add")?)
 }
 
 /// What a job asks for.
@@ -75,7 +69,7 @@ fn asked_of(job: &Job) -> Option<Asked>
     if !are_outputs(job.outputs.as_slice()) {
         return None;
     }
-    let number = place_of(job.args.as_slice())?;
+    let number = index_of(job.args.as_slice())?;
     let function = value_name(job.function.as_slice())?;
     let add = add_name(job.inputs.as_slice())?;
     Some(Asked {

@@ -1,22 +1,22 @@
 //! Groups of lines that a condition begins.
 
 ghost use Rattle.std.specs.Prelude.{◌≡◌, [], OnOk};
-ghost use Rattle.tool_text.specs.OpenGroups.{groups_of};
+ghost use Rattle.tool_text.specs.Views.{groups_of};
 ghost use Rattle.tool_text.specs.Preprocess.{State, is_active, begun, turned, ended, closed};
 ghost use Rattle.tool_text.specs.Tries.{Tries};
 
+use crate::cpp_fault::CppFault;
 use crate::failure::Failure;
-use crate::stopped::Stopped;
 use std::alloc::{AllocError, Global};
 
 /// A group of lines.
 #[derive(Clone, Copy, Debug, Drop)]
 pub struct Group {
-    /// What stands around it is active.
+    /// Whether what stands around it is active.
     pub around: bool,
-    /// It is active itself.
+    /// Whether it is active itself.
     pub active: bool,
-    /// Its `else` was met.
+    /// Whether its `else` came.
     pub had_else: bool,
 }
 
@@ -35,7 +35,7 @@ impl Groups {
         }
     }
 
-    /// Lines are written and directives have their effect.
+    /// Whether lines are written and directives have their effect.
     pub(crate) fn is_active(&self) -> bool
         ensures { result ≡ is_active (groups_of self.now) }
     {
@@ -45,12 +45,12 @@ impl Groups {
         }
     }
 
-    /// At the end of a file no group is open.
-    pub(crate) fn close(self) -> Result<(), Stopped>
+    /// Ends a file: no group may be open.
+    pub(crate) fn close(self) -> Result<(), CppFault>
         ensures { (state : State) → Tries (λ _. state) result (closed (groups_of self) state) }
     {
         if !self.open.is_empty() {
-            return Err(Stopped::Failed(Failure::BadDirective));
+            return Err(CppFault::Failed(Failure::BadDirective));
         }
         Ok(())
     }
@@ -69,17 +69,17 @@ impl Groups {
     }
 
     /// Turns the innermost group by its `else`.
-    pub(crate) fn turn(&mut self, of_form: bool) -> Result<(), Stopped>
+    pub(crate) fn turn(&mut self, of_form: bool) -> Result<(), CppFault>
         ensures { Tries (λ _. groups_of self.new) result (turned of_form (groups_of self.old)) }
     {
         let Some(group) = self.open.pop() else {
-            return Err(Stopped::Failed(Failure::BadDirective));
+            return Err(CppFault::Failed(Failure::BadDirective));
         };
         if !of_form {
-            return Err(Stopped::Failed(Failure::BadDirective));
+            return Err(CppFault::Failed(Failure::BadDirective));
         }
         if group.had_else {
-            return Err(Stopped::Failed(Failure::BadDirective));
+            return Err(CppFault::Failed(Failure::BadDirective));
         }
         self.open.push(Group {
             around: group.around,
@@ -90,14 +90,14 @@ impl Groups {
     }
 
     /// Ends the innermost group.
-    pub(crate) fn end(&mut self, of_form: bool) -> Result<(), Stopped>
+    pub(crate) fn end(&mut self, of_form: bool) -> Result<(), CppFault>
         ensures { Tries (λ _. groups_of self.new) result (ended of_form (groups_of self.old)) }
     {
         if self.open.pop().is_none() {
-            return Err(Stopped::Failed(Failure::BadDirective));
+            return Err(CppFault::Failed(Failure::BadDirective));
         }
         if !of_form {
-            return Err(Stopped::Failed(Failure::BadDirective));
+            return Err(CppFault::Failed(Failure::BadDirective));
         }
         Ok(())
     }

@@ -3,7 +3,7 @@
 ghost use Rattle.std.specs.Prelude.{◌<◌, ◌^◌, ℕ};
 ghost use Rattle.object_name.specs.Name.{ObjectName};
 ghost use Rattle.thunk_codec.specs.declared.job.Job.{Job};
-ghost use Rattle.thunk_codec.specs.Outcome.{Fits};
+ghost use Rattle.thunk_codec.specs.Outcome.{HasForm};
 ghost use Rattle.thunk_codec.specs.declared.reference.Ref.TheVariants.{Value, Out};
 ghost use Rattle.thunk_codec.specs.Reference.{IsRef};
 ghost use Rattle.thunk_codec.specs.Thunk.{IsThunk};
@@ -13,15 +13,14 @@ ghost use Rattle.tool_text.specs.Cat.{cat_outcome};
 ghost use Rattle.tool_text.specs.Cpp.{cpp_outcome};
 ghost use Rattle.tool_text.specs.Fail.{fail_outcome};
 ghost use Rattle.tool_text.specs.Fib.{fib_outcome, fib_thunk, sum_thunk};
-ghost use Rattle.tool_text.specs.Limit.{IsWithinLimit};
 
-/// What a card gives fits its job, where the outputs together are within the size of an object.
-pub fn outcomes_fit()
-    ensures cat { (job : Job) → IsWithinLimit (cat_outcome job) → Fits job (cat_outcome job) }
-    ensures fail { (job : Job) → Fits job (fail_outcome job) }
-    ensures add { (job : Job) → IsWithinLimit (add_outcome job) → Fits job (add_outcome job) }
-    ensures fib { (job : Job) → IsWithinLimit (fib_outcome job) → Fits job (fib_outcome job) }
-    ensures cpp { (job : Job) → IsWithinLimit (cpp_outcome job) → Fits job (cpp_outcome job) }
+/// What a card gives has the form that its job wants: as many outputs as the job names, or a status.
+pub fn outcomes_have_form()
+    ensures cat { (job : Job) → HasForm job (cat_outcome job) }
+    ensures fail { (job : Job) → HasForm job (fail_outcome job) }
+    ensures add { (job : Job) → HasForm job (add_outcome job) }
+    ensures fib { (job : Job) → HasForm job (fib_outcome job) }
+    ensures cpp { (job : Job) → HasForm job (cpp_outcome job) }
 {}
 
 /// What `fib` gives for a number over 1 are texts of thunks, where its names are those of objects of these kinds.

@@ -1,30 +1,31 @@
 //! The cards that work on bytes and numbers: each a function of its job.
 #![tactic(auto)]
 
-mod acting;
 mod add_tool;
+mod candidate_paths;
 mod cat_tool;
+mod cpp_fault;
 mod cpp_tool;
 mod directive;
-mod expanding;
+mod expansion;
 mod fail_tool;
 mod failure;
 mod fib_thunks;
 mod fib_tool;
 mod groups;
 mod include_lines;
-mod including;
 pub mod laws;
+mod line_effects;
 mod macros;
 mod numbers;
+mod prefixes;
 mod processing;
-mod runs;
 mod settings;
 mod state;
 mod status;
-mod stopped;
 
 pub use add_tool::add;
+pub use candidate_paths::candidates;
 pub use cat_tool::cat;
 pub use cpp_tool::cpp;
 pub use directive::Target;
@@ -33,4 +34,3 @@ pub use failure::Failure;
 pub use fib_tool::fib;
 pub use groups::Group;
 pub use include_lines::{IncludeLine, include_line};
-pub use including::candidates;

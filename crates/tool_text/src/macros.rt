@@ -3,7 +3,7 @@
 ghost use Rattle.std.specs.Prelude.{◌≡◌, None, Some, OnOk};
 ghost use Rattle.std.specs.Option.{option_copied};
 ghost use Rattle.tool_text.specs.Expand.{with_macro};
-ghost use Rattle.tool_text.specs.MacroTable.{macros_of};
+ghost use Rattle.tool_text.specs.Views.{macros_of};
 
 use object_name::Bytes;
 use std::alloc::{AllocError, Global};

@@ -2,13 +2,13 @@
 
 ghost use Rattle.std.specs.Prelude.{◌≡◌, IfOk};
 ghost use Rattle.std.specs.Option.{option_map};
-ghost use Rattle.tool_text.specs.Arguments.{settings_of};
+ghost use Rattle.tool_text.specs.Views.{settings_of};
 ghost use Rattle.tool_text.specs.Cpp as words;
 
 use crate::macros::MacroTable;
-use crate::runs::before_byte;
 use object_name::{Bytes, Many};
 use std::alloc::{AllocError, Global};
+use text_lines::split_at_byte;
 use thunk_codec::{Folder, is_identifier};
 
 /// What the arguments of the preprocessor set.
@@ -45,7 +45,7 @@ impl Settings {
         }
     }
 
-    /// One more include folder, behind the others.
+    /// One more include folder, after the others.
     fn with_folder(mut self, alloc: Global, text: &[u8]) -> Result<Option<Settings>, AllocError>
         ensures { IfOk result (λ found. option_map settings_of found ≡ words.with_folder text.now (settings_of self)) }
     {
@@ -60,13 +60,13 @@ impl Settings {
     fn with_definition(mut self, alloc: Global, text: &[u8]) -> Result<Option<Settings>, AllocError>
         ensures { IfOk result (λ found. option_map settings_of found ≡ words.with_definition text.now (settings_of self)) }
     {
-        let Some(name) = before_byte(b'=', text) else {
+        let Some((name, value)) = split_at_byte(b'=', text) else {
             return Ok(None);
         };
         if !is_identifier(name) {
             return Ok(None);
         }
-        self.macros.define(alloc, name, &text[name.len() + 1..])?;
+        self.macros.define(alloc, name, value)?;
         Ok(Some(self))
     }
 

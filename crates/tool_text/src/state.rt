@@ -1,15 +1,14 @@
 //! How far preprocessing has come.
 
 ghost use Rattle.std.specs.Prelude.{◌≡◌, ◌≤◌, None, Some, [], OnOk};
-ghost use Rattle.tool_text.specs.MacroTable.{macros_of};
+ghost use Rattle.tool_text.specs.Views.{macros_of, state_of};
 ghost use Rattle.tool_text.specs.Preprocess.{counted, written, with_name};
-ghost use Rattle.tool_text.specs.Standing.{state_of};
 ghost use Rattle.tool_text.specs.Tries.{Tries};
 
-use crate::expanding::expand;
+use crate::cpp_fault::CppFault;
+use crate::expansion::expand;
 use crate::failure::Failure;
 use crate::macros::MacroTable;
-use crate::stopped::Stopped;
 use object_name::{Bytes, MAX_SIZE};
 use std::alloc::{AllocError, Global};
 
@@ -41,26 +40,26 @@ impl State {
 
     /// Counts one more line.
     #[tactic(auto, unfolding(crate::specs::Preprocess::counted))]
-    pub(crate) fn count_line(&mut self) -> Result<(), Stopped>
+    pub(crate) fn count_line(&mut self) -> Result<(), CppFault>
         ensures { Tries (λ _. state_of self.new) result (counted (state_of self.old)) }
     {
         if self.count >= MAX_LINES {
-            return Err(Stopped::Failed(Failure::TooManyLines));
+            return Err(CppFault::Failed(Failure::TooManyLines));
         }
         self.count += 1;
         Ok(())
     }
 
     /// Writes a line with its identifiers replaced, and a line feed.
-    pub(crate) fn write_line(&mut self, line: &[u8]) -> Result<(), Stopped>
+    pub(crate) fn write_line(&mut self, line: &[u8]) -> Result<(), CppFault>
         ensures { Tries (λ _. state_of self.new) result (written line.now (state_of self.old)) }
     {
-        if let Err(stopped) = expand(&self.macros, line, &mut self.out) {
-            return Err(stopped);
+        if let Err(fault) = expand(&self.macros, line, &mut self.out) {
+            return Err(fault);
         }
         self.out.append(b"\n")?;
         if self.out.len() > MAX_SIZE as usize {
-            return Err(Stopped::Failed(Failure::OutputTooLong));
+            return Err(CppFault::Failed(Failure::OutputTooLong));
         }
         Ok(())
     }

@@ -1,4 +1,4 @@
-use Rattle.tool_text.proofs.ThunkTexts.{fib_written, fib_is_short}
+use Rattle.tool_text.proofs.FibTextsWritten.{fib_written, fib_is_short}
 use Rattle.tool_text.proofs.fib_thunks.fib_text.Goals as goal
 
 pub returns-clause-text : goal.returns-clause-text

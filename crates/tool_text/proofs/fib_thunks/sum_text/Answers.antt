@@ -1,4 +1,4 @@
-use Rattle.tool_text.proofs.ThunkTexts.{sum_written}
+use Rattle.tool_text.proofs.FibTextsWritten.{sum_written}
 use Rattle.tool_text.proofs.fib_thunks.sum_text.Goals as goal
 
 pub returns : goal.returns

@@ -1,4 +1,4 @@
-use Rattle.tool_text.proofs.GivenThunks.{fib_is_thunk, sum_is_thunk}
+use Rattle.tool_text.proofs.FibGivesThunks.{fib_is_thunk, sum_is_thunk}
 use Rattle.tool_text.proofs.laws.fib_gives_thunks.Goals as goal
 
 pub returns-clause-smaller : goal.returns-clause-smaller

@@ -1,7 +1,6 @@
 use Rattle.std.proofs.Common.{length}
-use Rattle.tool_text.specs.Including.{files_of}
-use Rattle.tool_text.specs.OpenGroups.{groups_of}
-use Rattle.tool_text.specs.Standing.{state_of}
+use Rattle.thunk_codec.specs.Files.{files_at}
+use Rattle.tool_text.specs.Views.{groups_of, state_of}
 use Rattle.tool_text.proofs.FileLines.{Left}
 use Rattle.tool_text.proofs.processing.+process.Given as goal
 
@@ -9,7 +8,7 @@ abbrev pub decreases-process : goal.decreases-process
 decreases-process l = l.levels
 
 abbrev pub invariant-lines : goal.invariant-lines
-invariant-lines l = Left (files_of l.job) l.folders l.levels l.path l.rest (groups_of l.groups) (state_of l.state) (state_of l.fn.state)
+invariant-lines l = Left (files_at l.inputs) l.folders l.levels l.path l.rest (groups_of l.groups) (state_of l.state) (state_of l.fn.state)
 
 abbrev pub decreases-lines : goal.decreases-lines
 decreases-lines l = length l.rest

@@ -1,5 +1,5 @@
 use Rattle.std.proofs.Common.{rules}
-use Rattle.tool_text.proofs.MacroLemmas.{table_defined}
+use Rattle.tool_text.proofs.TableUpdates.{table_defined}
 use Rattle.tool_text.proofs.macros.MacroTable.define.Goals as goal
 
 pub returns : goal.returns

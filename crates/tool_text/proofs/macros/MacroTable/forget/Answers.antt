@@ -1,4 +1,4 @@
-use Rattle.tool_text.proofs.MacroLemmas.{table_updated}
+use Rattle.tool_text.proofs.TableUpdates.{table_updated}
 use Rattle.std.specs.Prelude.{None}
 use Rattle.tool_text.proofs.macros.MacroTable.forget.Goals as goal
 

@@ -1,5 +1,5 @@
 use Rattle.std.proofs.Common.{◌≡◌, length}
-use Rattle.tool_text.specs.Arguments.{settings_of}
+use Rattle.tool_text.specs.Views.{settings_of}
 use Rattle.tool_text.specs.Cpp.{with_arguments, no_settings}
 use Rattle.tool_text.proofs.settings.Settings.read.Given as goal
 

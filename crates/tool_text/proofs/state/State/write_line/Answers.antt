@@ -1,11 +1,11 @@
 use Rattle.std.proofs.Common.{rules, ◌<◌, ◌≤◌, length, arith}
 use Rattle.object_name.specs.Name.{max_size}
-use Rattle.tool_text.specs.Standing.{state_of}
-use Rattle.tool_text.proofs.Writing.{above_stops, write_fails, write_fits}
+use Rattle.tool_text.specs.Views.{state_of}
+use Rattle.tool_text.proofs.LineWritten.{above_fails, write_fails, write_fits}
 use Rattle.tool_text.proofs.state.State.write_line.Goals as goal
 
 pub returns-in-Err : goal.returns-in-Err
-returns-in-Err c = above_stops c.args.line.now (state_of c.args.self.now) c.in-Err.stopped c.in-Err.ensures.err
+returns-in-Err c = above_fails c.args.line.now (state_of c.args.self.now) c.in-Err.fault c.in-Err.ensures.err
 
 pub returns-then-len : goal.returns-then-len
 returns-then-len c =
