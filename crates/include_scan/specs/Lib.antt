@@ -1,3 +1,3 @@
 pub mod Scanned
 pub mod Scanning
-pub mod Queueing
+pub mod Queue

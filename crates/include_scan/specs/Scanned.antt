@@ -1,31 +1,27 @@
 -- The files that preprocessing a source may read: the least set that has the source and what each of its files may include.
 use Rattle.std.specs.Prelude.{◌≡◌, ℕ, List, [], ◌∷◌, Bool, Some, None, IsTrue, Contains, map, unwrap_or, bytes_eq, if◌then◌else◌}
 use Rattle.std.specs.List.{flat_map, list_any}
-use Rattle.thunk_codec.specs.Job.{input_at}
+use Rattle.thunk_codec.specs.Files.{Files, files_at}
 use Rattle.text_lines.specs.Lines.{lines_of}
-use Rattle.tool_text.specs.Directive.{Directive, Text, Empty, Include, Define, Undef, Ifdef, Ifndef, If, Else, Endif, Unknown, Target, directive_of}
+use Rattle.tool_text.specs.Directive.{Target, directive_of}
 use Rattle.tool_text.specs.Expand.{Macros}
-use Rattle.tool_text.specs.Including.{Files, candidates, first_there}
+use Rattle.tool_text.specs.IncludeLine.{IncludeForm, Other, Includes, Computed, include_of}
+use Rattle.tool_text.specs.Including.{candidates, first_there}
 use Rattle.tool_text.specs.Preprocess.{preprocessed}
 
--- the file that a directive asks for, if it is an include line and its form says one
-abbrev pub asked_by : Directive → List Target
-asked_by (Include (Some target)) = target ∷ []
-asked_by (Include None) = []
-asked_by Text = []
-asked_by Empty = []
-asked_by (Define macro) = []
-asked_by (Undef name) = []
-asked_by (Ifdef name) = []
-asked_by (Ifndef name) = []
-asked_by (If number) = []
-asked_by (Else of_form) = []
-asked_by (Endif of_form) = []
-asked_by Unknown = []
+-- the file that a line asks for, if it is an include line and its form says one
+abbrev pub asked_by : IncludeForm → List Target
+asked_by (Includes target) = target ∷ []
+asked_by Computed = []
+asked_by Other = []
+
+-- the same of the line
+abbrev pub line_targets : List ℕ → List Target
+line_targets line = asked_by (include_of (directive_of line))
 
 -- what the include lines of a text ask for, whatever group they stand in
 abbrev pub include_targets : List ℕ → List Target
-include_targets bytes = flat_map (λ line. asked_by (directive_of line)) (lines_of bytes)
+include_targets bytes = flat_map line_targets (lines_of bytes)
 
 -- the bytes at a path
 abbrev pub bytes_at : Files → List ℕ → List ℕ
@@ -57,4 +53,4 @@ inputs_of files paths = map (λ path. (path, bytes_at files path)) paths
 -- preprocessing a source with these files alone as inputs gives what it gives with all files, whatever is defined
 abbrev pub Suffices : Files → List (List ℕ) → List ℕ → List (List ℕ) → Type 0
 Suffices files folders source paths = (macros : Macros) →
-    preprocessed (λ path. input_at path (inputs_of files paths)) folders macros source ≡ preprocessed files folders macros source
+    preprocessed (files_at (inputs_of files paths)) folders macros source ≡ preprocessed files folders macros source

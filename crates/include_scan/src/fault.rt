@@ -2,7 +2,7 @@
 
 ghost use Rattle.std.specs.Prelude.{◌≡◌};
 ghost use Rattle.include_scan.specs.declared.fault.ScanFault.TheVariants.{Memory};
-ghost use Rattle.include_scan.specs.Queueing.{fault_of};
+ghost use Rattle.include_scan.specs.Queue.{fault_of};
 
 use file_tree::FileRefusal;
 use object_name::Trouble;

@@ -1,9 +1,9 @@
 //! Laws of scanning that no single call shows.
 
 ghost use Rattle.std.specs.Prelude.{◌≡◌, ℕ, List, Bool};
+ghost use Rattle.thunk_codec.specs.Files.{Files};
 ghost use Rattle.include_scan.specs.Scanned.{IsClosed, only};
 ghost use Rattle.tool_text.specs.Expand.{Macros};
-ghost use Rattle.tool_text.specs.Including.{Files};
 ghost use Rattle.tool_text.specs.Preprocess.{preprocessed};
 
 /// Preprocessing a source with the files of a set alone that has the source and what each of its files may include gives what it

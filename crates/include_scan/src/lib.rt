@@ -2,11 +2,11 @@
 #![tactic(auto)]
 
 mod fault;
-mod finding;
+mod found;
 pub mod laws;
-mod meeting;
 mod queue;
 mod scanning;
+mod visits;
 
 pub use fault::ScanFault;
 pub use scanning::scan;

@@ -1,14 +1,14 @@
-//! The files that were met, and those of them that wait for a look at their lines.
+//! The files that were visited, and those of them that wait for a look at their lines.
 
 ghost use Rattle.std.specs.Prelude.{◌≡◌, ◌≢◌, ℕ, List, [], Option, false, IfErr};
+ghost use Rattle.thunk_codec.specs.Files.{Files};
 ghost use Rattle.file_tree.specs.Files.{file_read};
-ghost use Rattle.tool_text.specs.Including.{Files};
 ghost use Rattle.include_scan.specs.Scanned.{is_among};
-ghost use Rattle.include_scan.specs.Scanning.{met_file, met_found};
-ghost use Rattle.include_scan.specs.Queueing.{IsFound, IsNext, Judges, Meets, Waits};
+ghost use Rattle.include_scan.specs.Scanning.{visit_file, visit_found};
+ghost use Rattle.include_scan.specs.Queue.{IsFound, IsNext, Judges, Visits, Waits};
 
 use crate::fault::ScanFault;
-use crate::finding::Place;
+use crate::found::Found;
 use file_tree::{FileRead, FileRefusal};
 use indexmap::IndexSet;
 use object_name::{Bytes, TryCopy};
@@ -19,57 +19,57 @@ use thunk_codec::{Path, read_placeholder};
 /// The greatest number of files.
 pub(crate) const MAX_FILES: usize = 4096;
 
-/// The paths that were met, in the order of meeting, and the last of them with their bytes, which wait.
+/// The paths that were visited, in the order of visits, and the last of them with their bytes, which wait.
 #[derive(Drop)]
 pub(crate) struct Queue {
-    pub(crate) met: IndexSet<Path>,
+    pub(crate) visited: IndexSet<Path>,
     pub(crate) waiting: VecDeque<(Path, Bytes)>,
 }
 
 impl Queue {
-    /// Nothing was met.
+    /// Nothing was visited.
     pub(crate) fn new(alloc: Global) -> Self
-        ensures met { result.met.keys ≡ [] }
+        ensures visited { result.visited.keys ≡ [] }
         ensures waiting { result.waiting.items ≡ [] }
     {
         Queue {
-            met: IndexSet::new(alloc),
+            visited: IndexSet::new(alloc),
             waiting: VecDeque::new(alloc),
         }
     }
 
     /// Adds a new file, by what was read.
     pub(crate) fn add(&mut self, alloc: Global, path: Path, read: FileRead) -> Result<(), ScanFault>
-        ensures exact { (files : Files) (place : ℕ) → Waits files place self.old → is_among self.old.met.keys path ≡ false → read ≡ file_read (files path)
-            → Meets files place self.new (met_file files path self.old.met.keys) result }
+        ensures exact { (files : Files) (index : ℕ) → Waits files index self.old → is_among self.old.visited.keys path ≡ false → read ≡ file_read (files path)
+            → Visits files index self.new (visit_file files path self.old.visited.keys) result }
         ensures cause { IfErr result (λ fault. fault ≢ ScanFault.Failed) }
     {
-        if self.met.len() >= MAX_FILES {
+        if self.visited.len() >= MAX_FILES {
             return Err(ScanFault::TooMany);
         }
         let bytes = judge(alloc, &path, read)?;
-        self.met.insert(path.copy(alloc)?)?;
+        self.visited.insert(path.copy(alloc)?)?;
         self.waiting.push_back((path, bytes))?;
         Ok(())
     }
 
-    /// Adds the file that was found, where it is new.
-    pub(crate) fn meet(&mut self, alloc: Global, place: Place) -> Result<(), ScanFault>
-        ensures exact { (files : Files) (at : ℕ) (wanted : Option (List ℕ)) → Waits files at self.old → IsFound files self.old.met.keys wanted place
-            → Meets files at self.new (met_found files wanted self.old.met.keys) result }
+    /// Adds the file that was found, if it is new.
+    pub(crate) fn visit(&mut self, alloc: Global, found: Found) -> Result<(), ScanFault>
+        ensures exact { (files : Files) (index : ℕ) (wanted : Option (List ℕ)) → Waits files index self.old → IsFound files self.old.visited.keys wanted found
+            → Visits files index self.new (visit_found files wanted self.old.visited.keys) result }
         ensures cause { IfErr result (λ fault. fault ≢ ScanFault.Failed) }
     {
-        match place {
-            Place::Nowhere => Ok(()),
-            Place::Met => Ok(()),
-            Place::New(path, read) => self.add(alloc, path, read),
+        match found {
+            Found::Nowhere => Ok(()),
+            Found::Visited => Ok(()),
+            Found::New(path, read) => self.add(alloc, path, read),
         }
     }
 
     /// The next file that waits.
     pub(crate) fn next(&mut self) -> Option<(Path, Bytes)>
-        ensures next { (files : Files) (place : ℕ) → Waits files place self.old → IsNext files place self.old self.new result }
-        ensures kept { self.new.met ≡ self.old.met }
+        ensures next { (files : Files) (index : ℕ) → Waits files index self.old → IsNext files index self.old self.new result }
+        ensures kept { self.new.visited ≡ self.old.visited }
     {
         self.waiting.pop_front()
     }

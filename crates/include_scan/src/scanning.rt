@@ -3,18 +3,18 @@
 ghost use Rattle.std.specs.Prelude.{◌≡◌, ◌≤◌, [], IfOk};
 ghost use Rattle.include_scan.specs.Scanned.{IsScanned, Suffices, is_among};
 ghost use Rattle.include_scan.specs.Scanning.{IsInOrder, ScanCause, Scans, gathered, max_files, scan_of};
-ghost use Rattle.include_scan.specs.Queueing.{Leaves, StepCause, Waits};
+ghost use Rattle.include_scan.specs.Queue.{Leaves, Waits};
 
 use crate::fault::ScanFault;
-use crate::meeting::meet_lines;
 use crate::queue::{MAX_FILES, Queue};
+use crate::visits::visit_lines;
 use file_tree::{Tree, read_again};
 use indexmap::IndexSet;
 use object_name::{Many, TryCopy};
 use std::alloc::{AllocError, Global};
 use thunk_codec::{Folder, Path};
 
-/// Meets all files that the waiting files reach.
+/// Visits all files that the waiting files reach.
 fn gather<T: Tree>(
     alloc: Global,
     tree: &mut T,
@@ -22,16 +22,16 @@ fn gather<T: Tree>(
     queue: &mut Queue,
     retries: u32,
 ) -> Result<(), ScanFault>
-    ensures exact { T.tells → Waits (T.files tree.old) 0 queue.old → Leaves (gathered (T.files tree.old) folders.now max_files 0 queue.old.met.keys) queue.new.met.keys result }
+    ensures exact { T.tells → Waits (T.files tree.old) 0 queue.old → Leaves (gathered (T.files tree.old) folders.now max_files 0 queue.old.visited.keys) queue.new.visited.keys result }
     ensures same { T.tells → T.files tree.new ≡ T.files tree.old }
     ensures later { T.faults tree.old ≤ T.faults tree.new }
-    ensures cause { StepCause retries (T.faults tree.old) (T.faults tree.new) result }
+    ensures cause { ScanCause retries (T.faults tree.old) (T.faults tree.new) result }
 {
     'files: for _ in 0..MAX_FILES {
         let Some((path, bytes)) = queue.next() else {
             return Ok(());
         };
-        meet_lines(
+        visit_lines(
             alloc,
             tree,
             folders,
@@ -44,8 +44,8 @@ fn gather<T: Tree>(
     Ok(())
 }
 
-/// Meets all files of a source.
-fn meet_all<T: Tree>(
+/// Visits all files of a source.
+fn visit_all<T: Tree>(
     alloc: Global,
     tree: &mut T,
     file: &Path,
@@ -53,10 +53,10 @@ fn meet_all<T: Tree>(
     queue: &mut Queue,
     retries: u32,
 ) -> Result<(), ScanFault>
-    ensures exact { T.tells → queue.old.met.keys ≡ [] → queue.old.waiting.items ≡ [] → Leaves (scan_of (T.files tree.old) folders.now file.now) queue.new.met.keys result }
+    ensures exact { T.tells → queue.old.visited.keys ≡ [] → queue.old.waiting.items ≡ [] → Leaves (scan_of (T.files tree.old) folders.now file.now) queue.new.visited.keys result }
     ensures same { T.tells → T.files tree.new ≡ T.files tree.old }
     ensures later { T.faults tree.old ≤ T.faults tree.new }
-    ensures cause { StepCause retries (T.faults tree.old) (T.faults tree.new) result }
+    ensures cause { ScanCause retries (T.faults tree.old) (T.faults tree.new) result }
 {
     let read = read_again(alloc, tree, file, retries)?;
     queue.add(alloc, file.copy(alloc)?, read)?;
@@ -64,21 +64,21 @@ fn meet_all<T: Tree>(
 }
 
 /// The paths of a set, in its order.
-fn listed(alloc: Global, met: IndexSet<Path>) -> Result<Many<Path>, AllocError>
-    ensures { IfOk result (λ paths. paths ≡ met.keys) }
+fn listed(alloc: Global, visited: IndexSet<Path>) -> Result<Many<Path>, AllocError>
+    ensures { IfOk result (λ paths. paths ≡ visited.keys) }
 {
     let mut paths = Many::new(alloc);
-    'paths: for path in met {
+    'paths: for path in visited {
         paths.push(path)?;
     }
     Ok(paths)
 }
 
-/// The paths that were met, in order.
-fn in_order(alloc: Global, met: IndexSet<Path>) -> Result<Many<Path>, AllocError>
-    ensures { IfOk result (IsInOrder met.keys) }
+/// The paths that were visited, in order.
+fn in_order(alloc: Global, visited: IndexSet<Path>) -> Result<Many<Path>, AllocError>
+    ensures { IfOk result (IsInOrder visited.keys) }
 {
-    let mut sorted = met;
+    let mut sorted = visited;
     sorted.sort()?;
     listed(alloc, sorted)
 }
@@ -101,6 +101,6 @@ pub fn scan<T: Tree>(
     ensures cause { ScanCause retries (T.faults tree.old) (T.faults tree.new) result }
 {
     let mut queue = Queue::new(alloc);
-    meet_all(alloc, tree, file, folders, &mut queue, retries)?;
-    Ok(in_order(alloc, queue.met)?)
+    visit_all(alloc, tree, file, folders, &mut queue, retries)?;
+    Ok(in_order(alloc, queue.visited)?)
 }

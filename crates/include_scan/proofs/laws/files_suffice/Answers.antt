@@ -1,4 +1,4 @@
-use Rattle.include_scan.proofs.Agreeing.{preprocessed_agree}
+use Rattle.include_scan.proofs.ClosedSetSuffices.{preprocessed_agree}
 use Rattle.include_scan.proofs.laws.files_suffice.Goals as goal
 
 pub returns : goal.returns

@@ -1,5 +1,5 @@
-use Rattle.include_scan.proofs.Standing.{Gathers}
+use Rattle.include_scan.proofs.LoopInvariants.{GatheringSoFar}
 use Rattle.include_scan.proofs.scanning.gather.Given as goal
 
 abbrev pub invariant-files : goal.invariant-files
-invariant-files g l = Gathers g.T.Tree.tells g.T.Tree.files g.T.Tree.faults l.fn.tree l.tree l.folders l.fn.queue l.queue l.counter
+invariant-files g l = GatheringSoFar g.T.Tree.tells g.T.Tree.files g.T.Tree.faults l.fn.tree l.tree l.folders l.fn.queue l.queue l.counter

@@ -1,5 +1,5 @@
 use Rattle.std.proofs.Common.{◌∙◌}
-use Rattle.include_scan.proofs.Sorted.{listed_more, all_listed}
+use Rattle.include_scan.proofs.ListedInOrder.{listed_more, all_listed}
 use Rattle.include_scan.proofs.scanning.listed.Goals as goal
 
 pub paths-preserved : goal.paths-preserved

@@ -1,4 +1,4 @@
--- Files that are met: behind those before, few, all there, and in each closed set.
+-- Files that are visited: behind those before, few, all there, and in each closed set.
 use Rattle.std.proofs.Common.{◌≡◌, ◌≤◌, ◌<◌, ℕ, List, [], ◌∷◌, ◌++◌, Bool, true, false, ◌||◌, Option, Some, None, Ok, Err, IsTrue, length, refl, sym, ap, subst, ◌∙◌, arith, append_assoc, inl, inr, append-nil, ltb-true}
 use Rattle.std.specs.Prelude.{◌⊎◌, nat_lt, nat_le, bytes_eq, if◌then◌else◌}
 use Rattle.std.specs.Option.{is_some}
@@ -9,25 +9,25 @@ use Rattle.std.proofs.lemmas.Slice.Eq.{bytes_eq-Decides}
 use Rattle.object_name.specs.Name.{max_size}
 use Rattle.thunk_codec.proofs.PublicLaws.{bytes_eq-self}
 use Rattle.thunk_codec.specs.Placeholder.{placeholder_of}
+use Rattle.thunk_codec.specs.Files.{Files}
 use Rattle.file_tree.specs.declared.refusal.FileRefusal.TheVariants as refusals
 use Rattle.file_tree.specs.declared.tree.FileRead.TheVariants as reads
-use Rattle.tool_text.specs.Including.{Files}
 use Rattle.tool_text.specs.Trying.{◌>>=◌}
 use Rattle.include_scan.specs.declared.fault.ScanFault.TheVariants.{TooMany}
 use Rattle.include_scan.specs.Scanned.{IsClosed, is_among}
-use Rattle.include_scan.specs.Scanning.{Meeting, max_files, refusal_of, refusal_of_read, unless_refused, met_file}
+use Rattle.include_scan.specs.Scanning.{Visiting, max_files, refusal_of, refusal_of_read, unless_refused, visit_file}
 
--- what holds of the files that were met, where there is no refusal
-abbrev pub HoldsOk : (List (List ℕ) → Type 0) → Meeting → Type 0
+-- what holds of the files that were visited, where there is no refusal
+abbrev pub HoldsOk : (List (List ℕ) → Type 0) → Visiting → Type 0
 HoldsOk P (Ok now) = P now
 HoldsOk P (Err fault) = Unit {0}
 
-pub holds_map : {P Q : List (List ℕ) → Type 0} → (meeting : Meeting) → ((now : List (List ℕ)) → P now → Q now) → HoldsOk P meeting → HoldsOk Q meeting
+pub holds_map : {P Q : List (List ℕ) → Type 0} → (visiting : Visiting) → ((now : List (List ℕ)) → P now → Q now) → HoldsOk P visiting → HoldsOk Q visiting
 holds_map (Ok now) f h = f now h
 holds_map (Err fault) f h = tt
 
-pub bind_holds : {P : List (List ℕ) → Type 0} (Q : List (List ℕ) → Type 0) → (meeting : Meeting) (next : List (List ℕ) → Meeting) → HoldsOk P meeting
-    → ((now : List (List ℕ)) → P now → HoldsOk Q (next now)) → HoldsOk Q (meeting >>= next)
+pub bind_holds : {P : List (List ℕ) → Type 0} (Q : List (List ℕ) → Type 0) → (visiting : Visiting) (next : List (List ℕ) → Visiting) → HoldsOk P visiting
+    → ((now : List (List ℕ)) → P now → HoldsOk Q (next now)) → HoldsOk Q (visiting >>= next)
 bind_holds Q (Ok now) next h f = f now h
 bind_holds Q (Err fault) next h f = tt
 
@@ -68,46 +68,46 @@ module _ (files : Files) (folders : List (List ℕ)) (source : List ℕ) where
   abbrev pub exists : List ℕ → Bool
   exists path = is_some (files path)
 
-  -- more was met
-  pub record Onward (met now : List (List ℕ)) : Type 0 where
+  -- more was visited
+  pub record Onward (visited now : List (List ℕ)) : Type 0 where
     pub more : List (List ℕ)
-    pub is : now ≡ met ++ more
-    pub few : length met ≤ 4096 → length now ≤ 4096
-    pub there : AllIn exists met → AllIn exists now
-    pub least : (other : List ℕ → Bool) → IsClosed files folders source other → AllIn other met → AllIn other now
+    pub is : now ≡ visited ++ more
+    pub few : length visited ≤ 4096 → length now ≤ 4096
+    pub there : AllIn exists visited → AllIn exists now
+    pub least : (other : List ℕ → Bool) → IsClosed files folders source other → AllIn other visited → AllIn other now
 
-  pub nothing_met : (met : List (List ℕ)) → Onward met met
-  nothing_met met = record { more = []; is = sym (append-nil met); few = λ few. few; there = λ all. all; least = λ other closed all. all }
+  pub none_visited : (visited : List (List ℕ)) → Onward visited visited
+  none_visited visited = record { more = []; is = sym (append-nil visited); few = λ few. few; there = λ all. all; least = λ other closed all. all }
 
-  pub later_met : (met now later : List (List ℕ)) → Onward met now → Onward now later → Onward met later
-  later_met met now later first second = record {
+  pub later_visited : (visited now later : List (List ℕ)) → Onward visited now → Onward now later → Onward visited later
+  later_visited visited now later first second = record {
     more = first.more ++ second.more;
-    is = second.is ∙ (ap (λ paths. paths ++ second.more) first.is ∙ append_assoc met first.more second.more);
+    is = second.is ∙ (ap (λ paths. paths ++ second.more) first.is ∙ append_assoc visited first.more second.more);
     few = λ few. second.few (first.few few);
     there = λ all. second.there (first.there all);
     least = λ other closed all. second.least other closed (first.least other closed all);
   }
 
-  pub still_met : (met now : List (List ℕ)) → Onward met now → (path : List ℕ) → IsTrue (is_among met path) → IsTrue (is_among now path)
-  still_met met now onward path h = subst (λ paths. IsTrue (is_among paths path)) (sym onward.is) (among_left met onward.more path h)
+  pub still_visited : (visited now : List (List ℕ)) → Onward visited now → (path : List ℕ) → IsTrue (is_among visited path) → IsTrue (is_among now path)
+  still_visited visited now onward path h = subst (λ paths. IsTrue (is_among paths path)) (sym onward.is) (among_left visited onward.more path h)
 
   -- a path that is in each closed set that has the files so far
   abbrev pub IsNeeded : List (List ℕ) → List ℕ → Type 0
-  IsNeeded met path = (other : List ℕ → Bool) → IsClosed files folders source other → AllIn other met → IsTrue (other path)
+  IsNeeded visited path = (other : List ℕ → Bool) → IsClosed files folders source other → AllIn other visited → IsTrue (other path)
 
-  all_with : (set : List ℕ → Bool) (met : List (List ℕ)) (path : List ℕ) → AllIn set met → IsTrue (set path) → AllIn set (met ++ path ∷ [])
-  all_with set met path all h other among = by_parts (among_cases met (path ∷ []) other among) where
-    by_parts : IsTrue (is_among met other) ⊎ IsTrue (is_among (path ∷ []) other) → IsTrue (set other)
+  all_with : (set : List ℕ → Bool) (visited : List (List ℕ)) (path : List ℕ) → AllIn set visited → IsTrue (set path) → AllIn set (visited ++ path ∷ [])
+  all_with set visited path all h other among = by_parts (among_cases visited (path ∷ []) other among) where
+    by_parts : IsTrue (is_among visited other) ⊎ IsTrue (is_among (path ∷ []) other) → IsTrue (set other)
     by_parts (inl before) = all other before
     by_parts (inr last) = subst (λ path. IsTrue (set path)) (sym (among_one path other last)) h
 
-  one_met : (met : List (List ℕ)) (path : List ℕ) → length met < 4096 → IsTrue (exists path) → IsNeeded met path → Onward met (met ++ path ∷ [])
-  one_met met path room there needed = record {
+  one_visited : (visited : List (List ℕ)) (path : List ℕ) → length visited < 4096 → IsTrue (exists path) → IsNeeded visited path → Onward visited (visited ++ path ∷ [])
+  one_visited visited path room there needed = record {
     more = path ∷ [];
     is = refl;
-    few = λ _. let long = length_push met path in omega (arith, long, room);
-    there = λ all. all_with exists met path all there;
-    least = λ other closed all. all_with other met path all (needed other closed all);
+    few = λ _. let long = length_push visited path in omega (arith, long, room);
+    there = λ all. all_with exists visited path all there;
+    least = λ other closed all. all_with other visited path all (needed other closed all);
   }
 
   refused_or : (P : List (List ℕ) → Type 0) (path : List ℕ) (file : Option (List ℕ)) (next : List (List ℕ)) → (is_some file ≡ true → P next)
@@ -117,16 +117,16 @@ module _ (files : Files) (folders : List (List ℕ)) (source : List ℕ) where
       on_bool (nat_le (length bytes) max_size) (λ test. HoldsOk P (unless_refused (refusal_of_read path (if test then reads.Bytes bytes else reads.TooLong)) next))
       (λ _. on_bool (is_some (placeholder_of bytes)) (λ test. HoldsOk P (unless_refused (if test then Some (refusals.Generated path) else None) next)) (λ _. tt) (λ _. h refl)) (λ _. tt)
 
-  -- a file that is met is among them
-  abbrev pub MeetsFile : List ℕ → List (List ℕ) → List (List ℕ) → Type 0
-  MeetsFile path met now = Onward met now × IsTrue (is_among now path)
+  -- a file that is visited is among them
+  abbrev pub VisitsFile : List ℕ → List (List ℕ) → List (List ℕ) → Type 0
+  VisitsFile path visited now = Onward visited now × IsTrue (is_among now path)
 
-  pub met_file_goes : (path : List ℕ) (met : List (List ℕ)) → IsNeeded met path → HoldsOk (MeetsFile path met) (met_file files path met)
-  unfolding met_file
-  met_file_goes path met needed =
-      let fresh : Meeting = unless_refused (refusal_of path (files path)) (met ++ path ∷ []) in
-      on_bool (is_among met path) (λ test. HoldsOk (MeetsFile path met) (if test then Ok met else (if nat_lt (length met) max_files then fresh else Err TooMany)))
-      (λ among. (nothing_met met, among))
-      (λ _. on_bool (nat_lt (length met) max_files) (λ test. HoldsOk (MeetsFile path met) (if test then fresh else Err TooMany))
-      (λ room. refused_or (MeetsFile path met) path (files path) (met ++ path ∷ []) (λ there. (one_met met path (ltb-true (length met) max_files room) there needed, among_last met path)))
+  pub visit_file_goes : (path : List ℕ) (visited : List (List ℕ)) → IsNeeded visited path → HoldsOk (VisitsFile path visited) (visit_file files path visited)
+  unfolding visit_file
+  visit_file_goes path visited needed =
+      let fresh : Visiting = unless_refused (refusal_of path (files path)) (visited ++ path ∷ []) in
+      on_bool (is_among visited path) (λ test. HoldsOk (VisitsFile path visited) (if test then Ok visited else (if nat_lt (length visited) max_files then fresh else Err TooMany)))
+      (λ among. (none_visited visited, among))
+      (λ _. on_bool (nat_lt (length visited) max_files) (λ test. HoldsOk (VisitsFile path visited) (if test then fresh else Err TooMany))
+      (λ room. refused_or (VisitsFile path visited) path (files path) (visited ++ path ∷ []) (λ there. (one_visited visited path (ltb-true (length visited) max_files room) there needed, among_last visited path)))
       (λ _. tt))

@@ -40,18 +40,18 @@ sorted_rise (one ∷ []) sorted distinct = refl
 sorted_rise (first ∷ second ∷ others) sorted distinct =
     and_from _ _ (before first second (sorted 0 first (omega arith) (omega arith)) distinct.0.0) (sorted_rise (second ∷ others) (tail_sorted first (second ∷ others) sorted) distinct.1)
 
--- the paths that were met, sorted, are in order
-in_order : (met sorted paths : List (List ℕ)) → paths ≡ sorted → IsSorted (slice_cmp nat_cmp) sorted → ((path : List ℕ) → is_among sorted path ≡ is_among met path) → IsDistinct bytes_eq sorted
-    → IsInOrder met paths
-in_order met sorted paths is is_sorted same distinct = record {
+-- the paths that were visited, sorted, are in order
+in_order : (visited sorted paths : List (List ℕ)) → paths ≡ sorted → IsSorted (slice_cmp nat_cmp) sorted → ((path : List ℕ) → is_among sorted path ≡ is_among visited path) → IsDistinct bytes_eq sorted
+    → IsInOrder visited paths
+in_order visited sorted paths is is_sorted same distinct = record {
   same = λ path. ap (λ paths. is_among paths path) is ∙ same path;
   rising = ap is_strictly_increasing is ∙ sorted_rise sorted is_sorted distinct;
 }
 
-pub listed_in_order : {E : Type 0} (met sorted : List (List ℕ)) → IsSorted (slice_cmp nat_cmp) sorted → ((path : List ℕ) → is_among sorted path ≡ is_among met path) → IsDistinct bytes_eq sorted
-    → (result : Result (List (List ℕ)) E) → IfOk result (λ paths. paths ≡ sorted) → IfOk result (IsInOrder met)
-listed_in_order met sorted is_sorted same distinct (Ok paths) is = in_order met sorted paths is is_sorted same distinct
-listed_in_order met sorted is_sorted same distinct (Err error) is = tt
+pub listed_in_order : {E : Type 0} (visited sorted : List (List ℕ)) → IsSorted (slice_cmp nat_cmp) sorted → ((path : List ℕ) → is_among sorted path ≡ is_among visited path) → IsDistinct bytes_eq sorted
+    → (result : Result (List (List ℕ)) E) → IfOk result (λ paths. paths ≡ sorted) → IfOk result (IsInOrder visited)
+listed_in_order visited sorted is_sorted same distinct (Ok paths) is = in_order visited sorted paths is is_sorted same distinct
+listed_in_order visited sorted is_sorted same distinct (Err error) is = tt
 
 -- paths that were listed, and those that are left
 pub listed_more : (before now left rest all : List (List ℕ)) (path : List ℕ) → now ≡ before ++ path ∷ [] → left ≡ path ∷ rest → before ++ left ≡ all → now ++ rest ≡ all

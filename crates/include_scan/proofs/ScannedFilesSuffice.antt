@@ -7,13 +7,13 @@ use Rattle.std.proofs.lemmas.Slice.Eq.{bytes_eq-Decides}
 use Rattle.std.proofs.Math.Path.{fun_ext}
 use Rattle.thunk_codec.proofs.PublicLaws.{bytes_eq-self}
 use Rattle.thunk_codec.specs.Job.{input_at}
-use Rattle.tool_text.specs.Including.{Files}
+use Rattle.thunk_codec.specs.Files.{Files}
 use Rattle.tool_text.specs.Preprocess.{preprocessed}
 use Rattle.include_scan.specs.Scanned.{IsScanned, Suffices, bytes_at, inputs_of, is_among, only}
 use Rattle.include_scan.specs.Scanning.{IsInOrder, scan_of}
-use Rattle.include_scan.proofs.Agreeing.{preprocessed_agree}
-use Rattle.include_scan.proofs.Onward.{HoldsOk, AllIn, exists, on_bool, or_first, or_second}
-use Rattle.include_scan.proofs.Reached.{Found, scan_goes}
+use Rattle.include_scan.proofs.ClosedSetSuffices.{preprocessed_agree}
+use Rattle.include_scan.proofs.VisitedGrow.{HoldsOk, AllIn, exists, on_bool, or_first, or_second}
+use Rattle.include_scan.proofs.ScanIsLeastClosedSet.{IsFoundAll, scan_goes}
 
 some_there : (file : Option (List ℕ)) → is_some file ≡ true → Some (unwrap_or file []) ≡ file
 some_there None there = absurd (false≢true there)
@@ -45,12 +45,12 @@ module _ (files : Files) (folders : List (List ℕ)) (source : List ℕ) where
   scanned_suffice paths scanned all macros =
       ap (λ some. preprocessed some folders macros source) (fun_ext (inputs_only paths all)) ∙ preprocessed_agree files folders source (is_among paths) scanned.closed macros
 
-  module _ (met paths : List (List ℕ)) (is : scan_of files folders source ≡ Ok met) (in_order : IsInOrder met paths) where
-    same_set : is_among paths ≡ is_among met
+  module _ (visited paths : List (List ℕ)) (is : scan_of files folders source ≡ Ok visited) (in_order : IsInOrder visited paths) where
+    same_set : is_among paths ≡ is_among visited
     same_set = fun_ext in_order.same
 
-    what_is_found : Found files folders source met
-    what_is_found = subst (HoldsOk (Found files folders source)) is (scan_goes files folders source)
+    what_is_found : IsFoundAll files folders source visited
+    what_is_found = subst (HoldsOk (IsFoundAll files folders source)) is (scan_goes files folders source)
 
     -- the paths in order are the scanned files
     pub paths_scanned : IsScanned files folders source (is_among paths)

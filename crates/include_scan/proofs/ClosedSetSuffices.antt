@@ -4,16 +4,17 @@ use Rattle.std.specs.Prelude.{Contains, unwrap_or, if◌then◌else◌}
 use Rattle.std.specs.List.{flat_map}
 use Rattle.std.specs.Option.{is_some}
 use Rattle.std.proofs.lemmas.List.Elements.{Contains-append_left, Contains-append_right}
+use Rattle.thunk_codec.specs.Files.{Files}
 use Rattle.text_lines.specs.Lines.{lines_of}
 use Rattle.tool_text.specs.declared.failure.Failure.{Failure}
-use Rattle.tool_text.specs.Directive.{Target, directive_of}
+use Rattle.tool_text.specs.Directive.{Target}
 use Rattle.tool_text.specs.Expand.{Macros}
-use Rattle.tool_text.specs.Including.{Files, candidates, first_there}
+use Rattle.tool_text.specs.Including.{candidates, first_there}
 use Rattle.tool_text.specs.declared.groups.Group.{Group}
 use Rattle.tool_text.specs.Preprocess.{State, Taken, taken, followed, ran, found_or_not, going_into, processed, preprocessed}
 use Rattle.tool_text.specs.Trying.{◌>>=◌}
-use Rattle.include_scan.specs.Scanned.{IsClosed, asked_by, include_targets, bytes_at, only}
-use Rattle.include_scan.proofs.Targets.{IsAmong, GoesInto, taken_goes}
+use Rattle.include_scan.specs.Scanned.{IsClosed, line_targets, include_targets, bytes_at, only}
+use Rattle.include_scan.proofs.LineGoesIntoTarget.{IsAmong, GoesInto, taken_goes}
 
 -- two ways of going into files agree on some files
 abbrev pub AgreeOn : List Target → (Target → State → Result State Failure) → (Target → State → Result State Failure) → Type 0
@@ -30,22 +31,22 @@ module _ (f g : Target → State → Result State Failure) where
   bound_agree rest_f rest_g rests (Err failure) first_g same = rw (sym same) refl
   bound_agree rest_f rest_g rests (Ok state) first_g same = rw (sym same) (rests state)
 
-  line_agree : (line : List ℕ) (lines : List (List ℕ)) → AgreeOn (flat_map (λ line. asked_by (directive_of line)) (line ∷ lines)) f g
+  line_agree : (line : List ℕ) (lines : List (List ℕ)) → AgreeOn (flat_map line_targets (line ∷ lines)) f g
       → ((groups : List Group) (state : State) → ran f lines groups state ≡ ran g lines groups state)
-      → (now : Result Taken Failure) → GoesInto (asked_by (directive_of line)) now
+      → (now : Result Taken Failure) → GoesInto (line_targets line) now
       → (now >>= λ now. followed f now.target now.state >>= λ next. ran f lines now.groups next)
       ≡ (now >>= λ now. followed g now.target now.state >>= λ next. ran g lines now.groups next)
   line_agree line lines agree rests (Err failure) goes = refl
   line_agree line lines agree rests (Ok now) goes =
       bound_agree (λ next. ran f lines now.groups next) (λ next. ran g lines now.groups next) (rests now.groups)
-      _ _ (followed_agree (asked_by (directive_of line)) (λ target among state. agree target (Contains-append_left _ (flat_map (λ line. asked_by (directive_of line)) lines) target among) state) now.target goes now.state)
+      _ _ (followed_agree (line_targets line) (λ target among state. agree target (Contains-append_left _ (flat_map line_targets lines) target among) state) now.target goes now.state)
 
   -- two ways of following that agree on what the lines ask for give the same
-  pub ran_agree : (lines : List (List ℕ)) → AgreeOn (flat_map (λ line. asked_by (directive_of line)) lines) f g → (groups : List Group) (state : State)
+  pub ran_agree : (lines : List (List ℕ)) → AgreeOn (flat_map line_targets lines) f g → (groups : List Group) (state : State)
       → ran f lines groups state ≡ ran g lines groups state
   ran_agree [] agree groups state = refl
   ran_agree (line ∷ lines) agree groups state = line_agree line lines agree
-      (ran_agree lines (λ target among state. agree target (Contains-append_right (asked_by (directive_of line)) _ target among) state))
+      (ran_agree lines (λ target among state. agree target (Contains-append_right (line_targets line) _ target among) state))
       (taken line groups state) (taken_goes line groups state)
 
 -- what holds in each case of an optional value
@@ -66,30 +67,30 @@ module _ (files : Files) (is_in : List ℕ → Bool) where
 
   -- what is found first is in the set
   abbrev IsInside : List (Option (List ℕ)) → Type 0
-  IsInside places = (found : List ℕ) → first_there files places ≡ Some found → IsTrue (is_in found)
+  IsInside tried = (found : List ℕ) → first_there files tried ≡ Some found → IsTrue (is_in found)
 
-  first_absent : (path : List ℕ) (places : List (Option (List ℕ))) → IsInside (Some path ∷ places)
-      → (IsInside places → first_there (only is_in files) places ≡ first_there files places)
-      → files path ≡ None → first_there (only is_in files) (Some path ∷ places) ≡ first_there files (Some path ∷ places)
-  first_absent path places inside others absent =
-      let all : first_there files (Some path ∷ places) ≡ first_there files places = ap (λ file. if is_some file then Some path else first_there files places) absent in
-      let some : first_there (only is_in files) (Some path ∷ places) ≡ first_there (only is_in files) places =
-      ap (λ file. if is_some file then Some path else first_there (only is_in files) places) (only_absent path absent) in
+  first_absent : (path : List ℕ) (tried : List (Option (List ℕ))) → IsInside (Some path ∷ tried)
+      → (IsInside tried → first_there (only is_in files) tried ≡ first_there files tried)
+      → files path ≡ None → first_there (only is_in files) (Some path ∷ tried) ≡ first_there files (Some path ∷ tried)
+  first_absent path tried inside others absent =
+      let all : first_there files (Some path ∷ tried) ≡ first_there files tried = ap (λ file. if is_some file then Some path else first_there files tried) absent in
+      let some : first_there (only is_in files) (Some path ∷ tried) ≡ first_there (only is_in files) tried =
+      ap (λ file. if is_some file then Some path else first_there (only is_in files) tried) (only_absent path absent) in
       some ∙ (others (λ found is. inside found (all ∙ is)) ∙ sym all)
 
-  first_present : (path : List ℕ) (places : List (Option (List ℕ))) → IsInside (Some path ∷ places)
-      → (bytes : List ℕ) → files path ≡ Some bytes → first_there (only is_in files) (Some path ∷ places) ≡ first_there files (Some path ∷ places)
-  first_present path places inside bytes present =
-      let all : first_there files (Some path ∷ places) ≡ Some path = ap (λ file. if is_some file then Some path else first_there files places) present in
-      let some : first_there (only is_in files) (Some path ∷ places) ≡ Some path =
-      ap (λ file. if is_some file then Some path else first_there (only is_in files) places) (only_in path (inside path all) ∙ present) in
+  first_present : (path : List ℕ) (tried : List (Option (List ℕ))) → IsInside (Some path ∷ tried)
+      → (bytes : List ℕ) → files path ≡ Some bytes → first_there (only is_in files) (Some path ∷ tried) ≡ first_there files (Some path ∷ tried)
+  first_present path tried inside bytes present =
+      let all : first_there files (Some path ∷ tried) ≡ Some path = ap (λ file. if is_some file then Some path else first_there files tried) present in
+      let some : first_there (only is_in files) (Some path ∷ tried) ≡ Some path =
+      ap (λ file. if is_some file then Some path else first_there (only is_in files) tried) (only_in path (inside path all) ∙ present) in
       some ∙ sym all
 
-  -- the first of some places is the same, where it is in the set
-  first_only : (places : List (Option (List ℕ))) → IsInside places → first_there (only is_in files) places ≡ first_there files places
+  -- the first of some tried is the same, where it is in the set
+  first_only : (tried : List (Option (List ℕ))) → IsInside tried → first_there (only is_in files) tried ≡ first_there files tried
   first_only [] inside = refl
-  first_only (None ∷ places) inside = first_only places inside
-  first_only (Some path ∷ places) inside = by_option (files path) (first_absent path places inside (first_only places)) (first_present path places inside)
+  first_only (None ∷ tried) inside = first_only tried inside
+  first_only (Some path ∷ tried) inside = by_option (files path) (first_absent path tried inside (first_only tried)) (first_present path tried inside)
 
 module _ (files : Files) (folders : List (List ℕ)) (source : List ℕ) (is_in : List ℕ → Bool) (is_closed : IsClosed files folders source is_in) where
   -- a file of the set is entered in the same way

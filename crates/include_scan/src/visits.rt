@@ -1,18 +1,18 @@
-//! The files that the lines of a file meet.
+//! Visits of the files that the lines of a file go into.
 
 ghost use Rattle.std.specs.Prelude.{◌≡◌, ◌≤◌, ℕ, length};
 ghost use Rattle.object_name.specs.Name.{max_size};
 ghost use Rattle.text_lines.specs.Lines.{lines_of};
 ghost use Rattle.tool_text.specs.Directive.{directive_of};
 ghost use Rattle.tool_text.specs.IncludeLine.{include_of};
-ghost use Rattle.tool_text.specs.Including as places;
+ghost use Rattle.tool_text.specs.Including as including;
 ghost use Rattle.tool_text.specs.Including.{first_there};
 ghost use Rattle.tool_text.specs.Seen.{target_seen};
-ghost use Rattle.include_scan.specs.Scanning.{after_lines, met_found};
-ghost use Rattle.include_scan.specs.Queueing.{Asks, Meets, StepCause, Waits};
+ghost use Rattle.include_scan.specs.Scanning.{ScanCause, after_lines, visit_found};
+ghost use Rattle.include_scan.specs.Queue.{Asks, Visits, Waits};
 
 use crate::fault::ScanFault;
-use crate::finding::find;
+use crate::found::find;
 use crate::queue::Queue;
 use file_tree::{FileRefusal, Tree};
 use object_name::TryCopy;
@@ -41,8 +41,8 @@ fn asked<'a>(
     }
 }
 
-/// Meets the file that an include line goes into.
-fn meet_target<T: Tree>(
+/// Visits the file that an include line goes into.
+fn visit_target<T: Tree>(
     alloc: Global,
     tree: &mut T,
     folders: &[Folder],
@@ -51,19 +51,19 @@ fn meet_target<T: Tree>(
     queue: &mut Queue,
     retries: u32,
 ) -> Result<(), ScanFault>
-    ensures exact { T.tells → (place : ℕ) → Waits (T.files tree.old) place queue.old
-        → Meets (T.files tree.old) place queue.new (met_found (T.files tree.old) (first_there (T.files tree.old) (places.candidates folders.now path.now (target_seen target.entry))) queue.old.met.keys) result }
+    ensures exact { T.tells → (index : ℕ) → Waits (T.files tree.old) index queue.old
+        → Visits (T.files tree.old) index queue.new (visit_found (T.files tree.old) (first_there (T.files tree.old) (including.candidates folders.now path.now (target_seen target.entry))) queue.old.visited.keys) result }
     ensures same { T.tells → T.files tree.new ≡ T.files tree.old }
     ensures later { T.faults tree.old ≤ T.faults tree.new }
-    ensures cause { StepCause retries (T.faults tree.old) (T.faults tree.new) result }
+    ensures cause { ScanCause retries (T.faults tree.old) (T.faults tree.new) result }
 {
     let candidates = candidates(alloc, folders, path, target)?;
-    let place = find(alloc, tree, &queue.met, candidates.as_slice(), retries)?;
-    queue.meet(alloc, place)
+    let found = find(alloc, tree, &queue.visited, candidates.as_slice(), retries)?;
+    queue.visit(alloc, found)
 }
 
-/// Meets the files of all include lines of a file, in order.
-pub(crate) fn meet_lines<T: Tree>(
+/// Visits the files of all include lines of a file, in order.
+pub(crate) fn visit_lines<T: Tree>(
     alloc: Global,
     tree: &mut T,
     folders: &[Folder],
@@ -72,11 +72,11 @@ pub(crate) fn meet_lines<T: Tree>(
     queue: &mut Queue,
     retries: u32,
 ) -> Result<(), ScanFault>
-    ensures exact { T.tells → (place : ℕ) → Waits (T.files tree.old) place queue.old → length bytes.now ≤ max_size
-        → Meets (T.files tree.old) place queue.new (after_lines (T.files tree.old) folders.now path.now 1 (lines_of bytes.now) queue.old.met.keys) result }
+    ensures exact { T.tells → (index : ℕ) → Waits (T.files tree.old) index queue.old → length bytes.now ≤ max_size
+        → Visits (T.files tree.old) index queue.new (after_lines (T.files tree.old) folders.now path.now 1 (lines_of bytes.now) queue.old.visited.keys) result }
     ensures same { T.tells → T.files tree.new ≡ T.files tree.old }
     ensures later { T.faults tree.old ≤ T.faults tree.new }
-    ensures cause { StepCause retries (T.faults tree.old) (T.faults tree.new) result }
+    ensures cause { ScanCause retries (T.faults tree.old) (T.faults tree.new) result }
 {
     let mut number: u32 = 1;
     let mut rest = bytes;
@@ -90,7 +90,7 @@ pub(crate) fn meet_lines<T: Tree>(
         let Some(target) = asked else {
             continue;
         };
-        meet_target(alloc, tree, folders, path, target, queue, retries)?;
+        visit_target(alloc, tree, folders, path, target, queue, retries)?;
     }
     Ok(())
 }
