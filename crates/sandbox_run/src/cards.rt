@@ -1,20 +1,17 @@
 //! The runner of cards.
 
-ghost use Rattle.std.specs.Prelude.{◌≡◌, ◌≤◌, ◌↔◌, IsTrue, IfOk, length, sum_by};
+ghost use Rattle.std.specs.Prelude.{◌≡◌, ◌≤◌, ◌↔◌, IsTrue, length, sum_by};
 ghost use Rattle.object_name.specs.Name.{max_size};
-ghost use Rattle.sandbox_run.specs.Cards.{card_outcome, outcome_by, within_limit};
+ghost use Rattle.sandbox_run.specs.Cards.{card_outcome, within_limit};
 ghost use Rattle.sandbox_run.specs.CardsFit.{cards_fit};
 
-use crate::card::Card;
+use crate::tools::run_tool;
 use object_name::{Bytes, MAX_SIZE, Trouble};
-use std::alloc::{AllocError, Global};
+use std::alloc::Global;
 use thunk_codec::{Function, Job, Outcome, Runner};
 
 /// The status where the outputs together are over the size of an object.
 const TOO_LONG: u8 = 201;
-
-/// The status of a function that is no card.
-const UNKNOWN_CARD: u8 = 203;
 
 /// Whether some outputs together are within the size of an object.
 fn fit_together(outputs: &[Bytes]) -> bool
@@ -46,16 +43,6 @@ fn limit(outcome: Outcome) -> Outcome
     }
 }
 
-/// Runs the card.
-fn run_card(alloc: Global, card: Option<Card>, job: &Job) -> Result<Outcome, AllocError>
-    ensures { IfOk result (λ outcome. outcome ≡ outcome_by card job.now) }
-{
-    match card {
-        None => Ok(Outcome::Failed(UNKNOWN_CARD)),
-        Some(card) => Ok(limit(card.run(alloc, job)?)),
-    }
-}
-
 /// Runs jobs whose function is a card: `gg-tool `, the card's name and a line feed. Every other function has status 203, and outputs
 /// that are together over 16,777,216 bytes have status 201.
 #[derive(Debug, Drop)]
@@ -74,6 +61,6 @@ impl Runner for Cards {
 
     #[tactic(auto, unfolding(crate::specs::Cards::card_outcome))]
     fn run(&mut self, alloc: Global, job: &Job) -> Result<Outcome, Trouble> {
-        Ok(run_card(alloc, Card::of(job.function.as_slice()), job)?)
+        Ok(limit(run_tool(alloc, job)?))
     }
 }

@@ -1,7 +1,7 @@
 //! Runs jobs: a job whose function is a card is the work of that card's tool.
 #![tactic(auto)]
 
-mod card;
 mod cards;
+mod tools;
 
 pub use cards::Cards;

@@ -7,5 +7,5 @@ use Rattle.sandbox_run.proofs.cards.CardsRunner.run.Goals as goal
 pub returns-clause-fits : goal.returns-clause-fits
 unfolding card_outcome
 returns-clause-fits c =
-    let same : card_outcome c.args.job.now ≡ c.in_ok-run_card.field-0 = search rules in
+    let same : card_outcome c.args.job.now ≡ c.limit.result = search rules in
     subst (Fits c.args.job.now) same (cards_fit c.args.job.now)
