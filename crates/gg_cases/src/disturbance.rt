@@ -1,0 +1,270 @@
+//! The last command again, with failing calls.
+
+use crate::command::{Ran, run};
+use crate::differences::{calls_line, expect_line, expect_lines, writes_line};
+use crate::part::{Failing, Part};
+use crate::playing::Last;
+use crate::recorder::Write;
+use crate::sections::Sections;
+use crate::wrong::Wrong;
+use std::alloc::{AllocError, Global};
+
+/// What is said of the files where all are as the undisturbed command leaves them.
+const ALL_CHANGED: &str = "all files are changed";
+
+/// What is said of the files where not all are.
+const NOT_ALL_CHANGED: &str = "not all files are changed";
+
+/// How a command is disturbed: of which part so many calls in a row fail, and whether it goes on.
+#[derive(Clone, Copy)]
+struct Disturbance {
+    part: Part,
+    times: u64,
+    goes_on: bool,
+}
+
+impl Disturbance {
+    /// Reads `store call fails`, with `N times` and `and goes on` behind it or not.
+    fn read(text: &str) -> Option<Self> {
+        let (part, rest) = text.split_once(' ')?;
+        let part = Part::read(part)?;
+        let rest = rest.strip_prefix("call fails")?;
+        let (rest, goes_on) = match rest.strip_suffix(" and goes on") {
+            Some(rest) => (rest, true),
+            None => (rest, false),
+        };
+        let times = if rest.is_empty() {
+            1
+        } else {
+            rest.strip_prefix(' ')?
+                .strip_suffix(" times")?
+                .parse::<u64>()
+                .ok()?
+        };
+        Some(Disturbance {
+            part,
+            times,
+            goes_on,
+        })
+    }
+
+    /// The calls that fail, from one on.
+    fn failing(&self, alloc: Global, first: u64) -> Result<Failing, AllocError> {
+        let mut failing = Failing::none(alloc);
+        for further in 0..self.times {
+            failing.add(self.part, first.saturating_add(further))?;
+        }
+        Ok(failing)
+    }
+
+    /// How the command must end, as a case says it.
+    fn ending(&self) -> (&'static str, &'static str) {
+        match self.part {
+            Part::Store => ("! gg: store fault", "= 12"),
+            Part::Files => ("! gg: file fault", "= 13"),
+            Part::Output => ("! gg: output fault", "= 14"),
+        }
+    }
+}
+
+/// Does the last command again where each call that it made fails.
+pub fn disturb(
+    alloc: Global,
+    number: usize,
+    text: &str,
+    sections: &Sections,
+    last: &Last,
+) -> Result<(), Wrong> {
+    let disturbance = Disturbance::read(text).ok_or(Wrong::Form {
+        number,
+        why: "not `each PART call fails`",
+    })?;
+    let calls = last.ran.calls.of(disturbance.part);
+    for before in 0..calls {
+        let first = before.saturating_add(1);
+        let disturbed = Disturbed {
+            alloc,
+            number,
+            sections,
+            last,
+            disturbance,
+            first,
+        };
+        disturbed
+            .compare()
+            .map_err(|wrong| with_call(alloc, wrong, disturbance.part, first))?;
+    }
+    Ok(())
+}
+
+/// What is wrong, with a line in front that says which call fails.
+fn with_call(alloc: Global, wrong: Wrong, part: Part, call: u64) -> Wrong {
+    match wrong {
+        Wrong::Differs { number, shown } => match in_front(alloc, part, call, shown) {
+            Ok(shown) => Wrong::Differs { number, shown },
+            Err(AllocError) => Wrong::Memory,
+        },
+        other => other,
+    }
+}
+
+/// Some lines with one in front that says which call fails.
+fn in_front(
+    alloc: Global,
+    part: Part,
+    call: u64,
+    lines: Vec<String>,
+) -> Result<Vec<String>, AllocError> {
+    let word = part.word();
+    let mut all = Vec::new(alloc);
+    all.push(format!(in alloc; "where {word} call {call} fails:")?)?;
+    for line in lines {
+        all.push(line)?;
+    }
+    Ok(all)
+}
+
+/// The last command again, where calls from one on fail.
+#[derive(Drop)]
+struct Disturbed<'a> {
+    alloc: Global,
+    number: usize,
+    sections: &'a Sections,
+    last: &'a Last,
+    disturbance: Disturbance,
+    first: u64,
+}
+
+impl Disturbed<'_> {
+    fn compare(&self) -> Result<(), Wrong> {
+        let failing = self.disturbance.failing(self.alloc, self.first)?;
+        let before = self.last.before.copy(self.alloc)?;
+        let ran = run(self.alloc, self.last.words.as_slice(), before, failing)?;
+        if self.disturbance.goes_on {
+            return self.goes_on(&ran);
+        }
+        self.ends(&ran)?;
+        match self.disturbance.part {
+            Part::Output => self.has_left_all(&ran),
+            _ => self.goes_on_again(ran),
+        }
+    }
+
+    /// The undisturbed answer comes, with some calls more.
+    fn goes_on(&self, ran: &Ran) -> Result<(), Wrong> {
+        self.answers(ran)?;
+        self.has_left_all(ran)?;
+        let Disturbance { part, times, .. } = self.disturbance;
+        let expected = self.last.ran.calls.with_further(part, times);
+        for part in [Part::Store, Part::Files, Part::Output] {
+            self.made_calls(ran, part, expected.of(part))?;
+        }
+        Ok(())
+    }
+
+    /// The fault's answer comes, after the last of the failing calls.
+    fn ends(&self, ran: &Ran) -> Result<(), Wrong> {
+        let (line, status) = self.disturbance.ending();
+        let mut expected = Vec::new(self.alloc);
+        expected.push(String::from_str(self.alloc, line)?)?;
+        expected.push(String::from_str(self.alloc, status)?)?;
+        let mut got = ran.transcript(self.alloc)?;
+        if self.printed_a_prefix(ran) {
+            got.retain(|line| !line.starts_with('>'));
+        }
+        expect_lines(
+            self.alloc,
+            self.number,
+            expected.as_slice(),
+            got.as_slice(),
+            self.sections,
+            &ran.left,
+        )?;
+        let calls = self
+            .first
+            .saturating_add(self.disturbance.times)
+            .saturating_sub(1);
+        self.made_calls(ran, self.disturbance.part, calls)
+    }
+
+    /// Whether a failing output has taken a prefix of the undisturbed text.
+    fn printed_a_prefix(&self, ran: &Ran) -> bool {
+        match self.disturbance.part {
+            Part::Output => self.last.ran.out.as_slice().starts_with(ran.out.as_slice()),
+            Part::Store | Part::Files => false,
+        }
+    }
+
+    /// So many calls of a part were made.
+    fn made_calls(&self, ran: &Ran, part: Part, calls: u64) -> Result<(), Wrong> {
+        let word = part.word();
+        let expected = format!(in self.alloc; "calls {word} {calls}")?;
+        let got = calls_line(self.alloc, ran, part)?;
+        expect_line(self.alloc, self.number, expected.as_str(), got.as_str())
+    }
+
+    /// The undisturbed answer was printed.
+    fn answers(&self, ran: &Ran) -> Result<(), Wrong> {
+        let expected = self.last.ran.transcript(self.alloc)?;
+        let got = ran.transcript(self.alloc)?;
+        expect_lines(
+            self.alloc,
+            self.number,
+            expected.as_slice(),
+            got.as_slice(),
+            self.sections,
+            &ran.left,
+        )
+    }
+
+    /// All that the undisturbed command writes was written, and nothing else.
+    fn has_left_all(&self, ran: &Ran) -> Result<(), Wrong> {
+        self.wrote(self.last.ran.writes.as_slice(), ran.writes.as_slice())?;
+        self.has_files(ran, ALL_CHANGED)
+    }
+
+    /// These writes were made.
+    fn wrote(&self, expected: &[Write], got: &[Write]) -> Result<(), Wrong> {
+        let expected = writes_line(self.alloc, expected)?;
+        let got = writes_line(self.alloc, got)?;
+        expect_line(self.alloc, self.number, expected.as_str(), got.as_str())
+    }
+
+    /// All files that the undisturbed command changes are changed so, or, where a fault ended this one, not all.
+    fn has_files(&self, ran: &Ran, expected: &str) -> Result<(), Wrong> {
+        let undisturbed = &self.last.ran.left.files;
+        if self.last.before.files == *undisturbed {
+            return Ok(());
+        }
+        let got = if ran.left.files == *undisturbed {
+            ALL_CHANGED
+        } else {
+            NOT_ALL_CHANGED
+        };
+        expect_line(self.alloc, self.number, expected, got)
+    }
+
+    /// How many of the undisturbed command's writes were to be made before a call failed.
+    fn writes_before(&self, ran: &Ran) -> usize {
+        let all = self.last.ran.writes.as_slice();
+        match self.disturbance.part {
+            Part::Store => all.iter().filter(|write| write.call < self.first).count(),
+            Part::Files | Part::Output => ran.writes.len(),
+        }
+    }
+
+    /// The writes before the failing call were made, and the same command over what is left makes the others.
+    fn goes_on_again(&self, ran: Ran) -> Result<(), Wrong> {
+        self.has_files(&ran, NOT_ALL_CHANGED)?;
+        let all = self.last.ran.writes.as_slice();
+        let before = self.writes_before(&ran).min(all.len());
+        let (made, others) = all.split_at(before);
+        self.wrote(made, ran.writes.as_slice())?;
+        let Ran { left, .. } = ran;
+        let none = Failing::none(self.alloc);
+        let again = run(self.alloc, self.last.words.as_slice(), left, none)?;
+        self.answers(&again)?;
+        self.wrote(others, again.writes.as_slice())?;
+        self.has_files(&again, ALL_CHANGED)
+    }
+}

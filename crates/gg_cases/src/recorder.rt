@@ -1,0 +1,99 @@
+//! A keeper that records its writes.
+
+ghost use Rattle.std.specs.Prelude.{◌≡◌, IfOk, OnOk, OnErr};
+ghost use Rattle.object_name.specs.Causes.{HasCause};
+ghost use Rattle.blob_store.specs.Memory.{store_of};
+
+use blob_store::{Keeper, MemKeeper};
+use object_name::{Bytes, Many, Name, Trouble};
+use std::alloc::{AllocError, Global};
+
+/// Among what a write put its bytes.
+#[derive(Clone, Copy)]
+pub enum Shelf {
+    Objects,
+    Notes,
+}
+
+/// A write that was made: the name, and the number of the call.
+#[derive(Clone, Copy)]
+pub struct Write {
+    pub shelf: Shelf,
+    pub name: Name,
+    pub call: u64,
+}
+
+/// A keeper in memory that records the writes that were made. It tells nothing.
+#[derive(Drop)]
+pub struct Recorder {
+    keeper: MemKeeper,
+    writes: Vec<Write>,
+}
+
+/// What a recorder is taken apart into.
+#[derive(Drop)]
+pub struct Recorded {
+    pub objects: Many<(Name, Bytes)>,
+    pub notes: Many<(Name, Bytes)>,
+    pub writes: Vec<Write>,
+    pub calls: u64,
+}
+
+impl Recorder {
+    pub fn new(alloc: Global, keeper: MemKeeper) -> Self {
+        Recorder {
+            keeper,
+            writes: Vec::new(alloc),
+        }
+    }
+
+    pub fn into_recorded(self) -> Recorded {
+        let Recorder { keeper, writes } = self;
+        let calls = keeper.calls();
+        let (objects, notes) = keeper.into_content();
+        Recorded {
+            objects,
+            notes,
+            writes,
+            calls,
+        }
+    }
+
+    fn record(&mut self, shelf: Shelf, name: &Name) -> Result<(), AllocError> {
+        let call = self.keeper.calls();
+        self.writes.push(Write {
+            shelf,
+            name: *name,
+            call,
+        })?;
+        Ok(())
+    }
+}
+
+impl Keeper for Recorder {
+    ghost tells = { ⊥ };
+
+    ghost store = { λ r. store_of r.keeper };
+
+    ghost faults = { λ r. r.keeper.calls.faults };
+
+    fn get(&mut self, alloc: Global, name: &Name) -> Result<Option<Bytes>, Trouble> {
+        self.keeper.get(alloc, name)
+    }
+
+    fn put(&mut self, name: &Name, bytes: &[u8]) -> Result<(), Trouble> {
+        self.keeper.put(name, bytes)?;
+        self.record(Shelf::Objects, name)?;
+        Ok(())
+    }
+
+    fn get_note(&mut self, alloc: Global, name: &Name) -> Result<Option<Bytes>, Trouble> {
+        self.keeper.get_note(alloc, name)
+    }
+
+    fn put_note(&mut self, name: &Name, bytes: &[u8]) -> Result<(), Trouble> {
+        self.keeper.put_note(name, bytes)?;
+        self.record(Shelf::Notes, name)?;
+        Ok(())
+    }
+}
