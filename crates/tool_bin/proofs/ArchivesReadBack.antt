@@ -10,8 +10,8 @@ use Rattle.std.proofs.lemmas.Fmt.{length-decimal-le}
 use Rattle.text_lines.specs.Maybe.{◌>>=◌}
 use Rattle.text_lines.specs.Cuts.{strip_prefix}
 use Rattle.tool_bin.specs.Archive.{ArchiveMember, archive_mark, archive_text, field, header, header_end, is_member, is_member_name, is_name_byte, member_text, numbers, padding, part, size_limit, table_name}
-use Rattle.tool_bin.specs.ArchiveReading.{all_members, archive_of, begins_with_table, behind_table, header_at, member_at, members_at, name_in, name_of, size_in, size_of}
-use Rattle.tool_bin.proofs.MembersLoop.{going_shortens, one_member}
+use Rattle.tool_bin.specs.ArchiveReading.{all_members, archive_of, begins_with_table, after_table, header_at, member_at, members_at, name_in, member_name_of, size_in, member_size_of}
+use Rattle.tool_bin.proofs.MembersReadInTurn.{going_shortens, one_member}
 use Rattle.tool_bin.proofs.FieldsReadBack.{contents_read, name_bytes, name_len, name_read, size_read}
 
 -- ---- headers
@@ -44,7 +44,7 @@ header_found name between size rest are =
     let long : leb 60 (length (h ++ rest)) ≡ true = le-leb 60 (length (h ++ rest)) (omega (arith, len, length-append h rest)) in
     rw (long, take_at h rest 60 len, drop_at h rest 60 len) refl
 
-name_found : (name between size : List ℕ) → AreFields name between size → name_of (fields name between size) ≡ name_in name
+name_found : (name between size : List ℕ) → AreFields name between size → member_name_of (fields name between size) ≡ name_in name
 name_found name between size are = ap name_in (take_at name (between ++ (size ++ header_end)) 16 are.first)
 
 size_field : (name between size : List ℕ) → AreFields name between size → take 10 (drop 48 (fields name between size)) ≡ size
@@ -59,7 +59,7 @@ end_found name between size =
     let whole : fields name between size ≡ (name ++ (between ++ size)) ++ header_end = sym (append_assoc name (between ++ size) header_end ∙ ap (λ (v : List ℕ). name ++ v) (append_assoc between size header_end)) in
     (ends_is Decides-eqb (fields name between size) header_end _ refl).1 (name ++ (between ++ size)) whole
 
-size_found : (name between size : List ℕ) → AreFields name between size → size_of (fields name between size) ≡ size_in size
+size_found : (name between size : List ℕ) → AreFields name between size → member_size_of (fields name between size) ≡ size_in size
 size_found name between size are = rw (end_found name between size) (ap size_in (size_field name between size are))
 
 -- ---- parts
@@ -77,7 +77,7 @@ pub table_between : IsBetween (codes "0") (field 12 (codes "0") ++ (field 6 (cod
 unfolding numbers
 table_between = record { len = refl; is = λ size. refl }
 
--- a part and what stands behind it, by its fields
+-- a part and what stands after it, by its fields
 part_is : (spelled mode between contents rest : List ℕ) → IsBetween mode between
     → part spelled mode contents ++ rest ≡ fields (field 16 spelled) between (field 10 (decimal (length contents))) ++ (contents ++ (padding (length contents) ++ rest))
 part_is spelled mode between contents rest is =
@@ -94,18 +94,18 @@ pub header_len : (spelled mode between : List ℕ) (n : ℕ) → IsBetween mode 
 header_len spelled mode between n is short small =
     ap (λ (v : List ℕ). length (field 16 spelled ++ v)) (is.is n) ∙ fields_len (field 16 spelled) between (field 10 (decimal n)) (are_fields spelled mode between n is short small)
 
-behind_by : (name between size table rest : List ℕ) → AreFields name between size → size_in size ≡ Some (length table) → behind_table (fields name between size ++ (table ++ (padding (length table) ++ rest))) ≡ Some rest
-unfolding behind_table
-behind_by name between size table rest are read =
+after_by : (name between size table rest : List ℕ) → AreFields name between size → size_in size ≡ Some (length table) → after_table (fields name between size ++ (table ++ (padding (length table) ++ rest))) ≡ Some rest
+unfolding after_table
+after_by name between size table rest are read =
     rw (header_found name between size (table ++ (padding (length table) ++ rest)) are, size_found name between size are, read, contents_read table rest) refl
 
--- what stands behind a table is found
-pub table_found : (table rest : List ℕ) → length table < size_limit → behind_table (part table_name (codes "0") table ++ rest) ≡ Some rest
+-- what stands after a table is found
+pub table_found : (table rest : List ℕ) → length table < size_limit → after_table (part table_name (codes "0") table ++ rest) ≡ Some rest
 table_found table rest small =
     let between = field 12 (codes "0") ++ (field 6 (codes "0") ++ (field 6 (codes "0") ++ field 8 (codes "0"))) in
     let are = are_fields table_name (codes "0") between (length table) table_between (omega arith) small in
-    ap behind_table (part_is table_name (codes "0") between table rest table_between)
-    ∙ behind_by (field 16 table_name) between (field 10 (decimal (length table))) table rest are (size_read (length table) small)
+    ap after_table (part_is table_name (codes "0") between table rest table_between)
+    ∙ after_by (field 16 table_name) between (field 10 (decimal (length table))) table rest are (size_read (length table) small)
 
 -- a member is found
 member_by : (field_of_name between size name contents rest : List ℕ) → AreFields field_of_name between size → name_in field_of_name ≡ Some name → size_in size ≡ Some (length contents)
@@ -149,11 +149,11 @@ members_found zero (member ∷ members) good room =
     absurd (omega (arith, room, text_some member (flat_map member_text members) (and_parts (is_member member) (list_all is_member members) good).0))
 members_found (suc most) (member ∷ members) good room =
     let parts = and_parts (is_member member) (list_all is_member members) good in
-    let behind = flat_map member_text members in
-    let some = text_some member behind parts.0 in
-    let found = member_found member behind parts.0 in
-    let shorter = going_shortens (member_text member ++ behind) member behind (sym found) in
-    one_member most (member_text member ++ behind) member behind found some
+    let after = flat_map member_text members in
+    let some = text_some member after parts.0 in
+    let found = member_found member after parts.0 in
+    let shorter = going_shortens (member_text member ++ after) member after (sym found) in
+    one_member most (member_text member ++ after) member after found some
     ∙ ap (λ (read : Option (List ArchiveMember)). read >>= λ others. Some (member ∷ others)) (members_found most members parts.1 (omega (arith, room, shorter)))
 
 all_found : (members : List ArchiveMember) → list_all is_member members ≡ true → all_members (flat_map member_text members) ≡ Some members
@@ -168,9 +168,9 @@ first_other byte good =
     let other = and_parts (leb byte 126) (not (eqb byte 47)) bounds.1 in
     ne_eqb 47 byte (λ e. eqb-false byte 47 (not-true (eqb byte 47) other.1) (sym e))
 
-not_table_by : (name behind : List ℕ) → is_member_name name ≡ true → list_all is_name_byte name ≡ true → begins_with_table (name ++ behind) ≡ false
-not_table_by [] behind good bytes = absurd cc
-not_table_by (byte ∷ name) behind good bytes = rw (first_other byte (and_parts (is_name_byte byte) (list_all is_name_byte name) bytes).0) refl
+not_table_by : (name after : List ℕ) → is_member_name name ≡ true → list_all is_name_byte name ≡ true → begins_with_table (name ++ after) ≡ false
+not_table_by [] after good bytes = absurd cc
+not_table_by (byte ∷ name) after good bytes = rw (first_other byte (and_parts (is_name_byte byte) (list_all is_name_byte name) bytes).0) refl
 
 not_table : (members : List ArchiveMember) → list_all is_member members ≡ true → begins_with_table (flat_map member_text members) ≡ false
 not_table [] good = refl
@@ -179,20 +179,20 @@ not_table (member ∷ members) good =
     let spaces = replicate (16 - length (member.name ++ 47 ∷ [])) 32 in
     let rest = numbers (codes "644") (length member.contents) in
     let contents = member.contents ++ padding (length member.contents) in
-    let behind = flat_map member_text members in
-    ap begins_with_table (append_assoc (((member.name ++ 47 ∷ []) ++ spaces) ++ rest) contents behind
-    ∙ append_assoc ((member.name ++ 47 ∷ []) ++ spaces) rest (contents ++ behind)
-    ∙ append_assoc (member.name ++ 47 ∷ []) spaces (rest ++ (contents ++ behind))
-    ∙ append_assoc member.name (47 ∷ []) (spaces ++ (rest ++ (contents ++ behind))))
-    ∙ not_table_by member.name (47 ∷ (spaces ++ (rest ++ (contents ++ behind)))) name (name_bytes member.name name)
+    let after = flat_map member_text members in
+    ap begins_with_table (append_assoc (((member.name ++ 47 ∷ []) ++ spaces) ++ rest) contents after
+    ∙ append_assoc ((member.name ++ 47 ∷ []) ++ spaces) rest (contents ++ after)
+    ∙ append_assoc (member.name ++ 47 ∷ []) spaces (rest ++ (contents ++ after))
+    ∙ append_assoc member.name (47 ∷ []) (spaces ++ (rest ++ (contents ++ after))))
+    ∙ not_table_by member.name (47 ∷ (spaces ++ (rest ++ (contents ++ after)))) name (name_bytes member.name name)
 
 without_by : (body : List ℕ) (members : List ArchiveMember) → begins_with_table body ≡ false → all_members body ≡ Some members → archive_of (archive_mark ++ body) ≡ Some (record { has_table = false; members = members })
 unfolding archive_of
 without_by body members other found = rw (other, found) refl
 
-with_by : (body rest : List ℕ) (members : List ArchiveMember) → begins_with_table body ≡ true → behind_table body ≡ Some rest → all_members rest ≡ Some members → archive_of (archive_mark ++ body) ≡ Some (record { has_table = true; members = members })
+with_by : (body rest : List ℕ) (members : List ArchiveMember) → begins_with_table body ≡ true → after_table body ≡ Some rest → all_members rest ≡ Some members → archive_of (archive_mark ++ body) ≡ Some (record { has_table = true; members = members })
 unfolding archive_of
-with_by body rest members begun is_behind found = rw (begun, is_behind, found) refl
+with_by body rest members begun is_after found = rw (begun, is_after, found) refl
 
 table_begins : (table rest : List ℕ) → begins_with_table (part table_name (codes "0") table ++ rest) ≡ true
 table_begins table rest = refl
@@ -201,5 +201,5 @@ pub read_back : (table : Option (List ℕ)) (members : List ArchiveMember) → I
     → archive_of (archive_text table members) ≡ Some (record { has_table = is_some table; members = members })
 read_back None members small good = without_by (flat_map member_text members) members (not_table members good) (all_found members good)
 read_back (Some table) members small good =
-    let behind = flat_map member_text members in
-    with_by (part table_name (codes "0") table ++ behind) behind members (table_begins table behind) (table_found table behind small) (all_found members good)
+    let after = flat_map member_text members in
+    with_by (part table_name (codes "0") table ++ after) after members (table_begins table after) (table_found table after small) (all_found members good)

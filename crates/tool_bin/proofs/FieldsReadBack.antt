@@ -1,4 +1,4 @@
--- What the fields of a header say, where they are written.
+-- The fields of a header are read back as they were written.
 use Rattle.std.proofs.Common.{◌≡◌, ℕ, zero, suc, ◌+◌, ◌-◌, ◌<◌, ◌≤◌, ◌^◌, true, not, ◌&&◌, ltb, leb, eqb, List, [], ◌∷◌, ◌++◌, length, take, drop, append_assoc, length-append, Some, refl, sym, ap, ◌∙◌, arith}
 use Rattle.std.specs.Prelude.{replicate, decimal, nat_eq}
 use Rattle.std.specs.Char.{is_ascii_digit}
@@ -48,21 +48,21 @@ size_read n small =
 
 -- ---- the name
 
-name_prefix : (name behind : List ℕ) → list_all is_name_byte name ≡ true → prefix_len (λ byte. not (is_slash byte)) (name ++ 47 ∷ behind) ≡ length name
-name_prefix [] behind all = refl
-name_prefix (byte ∷ name) behind all =
+name_prefix : (name after : List ℕ) → list_all is_name_byte name ≡ true → prefix_len (λ byte. not (is_slash byte)) (name ++ 47 ∷ after) ≡ length name
+name_prefix [] after all = refl
+name_prefix (byte ∷ name) after all =
     let parts = and_parts (is_name_byte byte) (list_all is_name_byte name) all in
     let bounds = and_parts (leb 33 byte) (leb byte 126 && not (eqb byte 47)) parts.0 in
     let other = and_parts (leb byte 126) (not (eqb byte 47)) bounds.1 in
-    rw (other.1) (ap (λ (k : ℕ). 1 + k) (name_prefix name behind parts.1) ∙ (let e : 1 + length name ≡ suc (length name) = omega arith in e))
+    rw (other.1) (ap (λ (k : ℕ). 1 + k) (name_prefix name after parts.1) ∙ (let e : 1 + length name ≡ suc (length name) = omega arith in e))
 
 name_by : (name spaces : List ℕ) → is_member_name name ≡ true → list_all is_name_byte name ≡ true → list_all is_space spaces ≡ true → name_in (name ++ 47 ∷ spaces) ≡ Some name
 unfolding name_in
 name_by name spaces good bytes blank =
     let prefix = name_prefix name spaces bytes in
     let within : ltb (length name) (length (name ++ 47 ∷ spaces)) ≡ true = lt-ltb (length name) (length (name ++ 47 ∷ spaces)) (omega (arith, length-append name (47 ∷ spaces))) in
-    let behind : drop (length name + 1) (name ++ 47 ∷ spaces) ≡ spaces = ap (drop (length name + 1)) (sym (append_assoc name (47 ∷ []) spaces)) ∙ drop_at (name ++ 47 ∷ []) spaces (length name + 1) (length-append name (47 ∷ [])) in
-    rw (prefix, within, strip_prefix, take_at name (47 ∷ spaces) (length name) refl, good, blank) refl
+    let after : drop (length name + 1) (name ++ 47 ∷ spaces) ≡ spaces = ap (drop (length name + 1)) (sym (append_assoc name (47 ∷ []) spaces)) ∙ drop_at (name ++ 47 ∷ []) spaces (length name + 1) (length-append name (47 ∷ [])) in
+    rw (prefix, within, after, take_at name (47 ∷ spaces) (length name) refl, good, blank) refl
 
 -- the bytes of a name
 pub name_bytes : (name : List ℕ) → is_member_name name ≡ true → list_all is_name_byte name ≡ true
@@ -85,8 +85,8 @@ name_read name good =
 -- ---- the contents
 
 -- a mark is found where it stands
-pub behind_found : (mark rest : List ℕ) → strip_prefix mark (mark ++ rest) ≡ Some rest
-behind_found mark rest =
+pub after_found : (mark rest : List ℕ) → strip_prefix mark (mark ++ rest) ≡ Some rest
+after_found mark rest =
     let starts : starts_with nat_eq (mark ++ rest) mark ≡ true = (starts_is Decides-eqb (mark ++ rest) mark _ refl).1 rest refl in
     rw (starts, drop_at mark rest (length mark) refl) refl
 
@@ -96,4 +96,4 @@ unfolding contents_at
 contents_read contents rest =
     let whole = contents ++ (padding (length contents) ++ rest) in
     let fits : leb (length contents) (length whole) ≡ true = le-leb (length contents) (length whole) (omega (arith, length-append contents (padding (length contents) ++ rest))) in
-    rw (fits, drop_at contents (padding (length contents) ++ rest) (length contents) refl, take_at contents (padding (length contents) ++ rest) (length contents) refl, behind_found (padding (length contents)) rest) refl
+    rw (fits, drop_at contents (padding (length contents) ++ rest) (length contents) refl, take_at contents (padding (length contents) ++ rest) (length contents) refl, after_found (padding (length contents)) rest) refl

@@ -24,7 +24,7 @@ header_end = 96 ∷ 10 ∷ []
 abbrev pub field : ℕ → List ℕ → List ℕ
 field width text = text ++ replicate (width - length text) 32
 
--- the fields of a header behind the name: the time, the owner and the group 0, the mode in octal and the size in decimal
+-- the fields of a header after the name: the time, the owner and the group 0, the mode in octal and the size in decimal
 unfoldable pub numbers : List ℕ → ℕ → List ℕ
 numbers mode size = field 12 (codes "0") ++ (field 6 (codes "0") ++ (field 6 (codes "0")
     ++ (field 8 mode ++ (field 10 (decimal size) ++ header_end))))
@@ -33,7 +33,7 @@ numbers mode size = field 12 (codes "0") ++ (field 6 (codes "0") ++ (field 6 (co
 abbrev pub header : List ℕ → List ℕ → ℕ → List ℕ
 header spelled mode size = field 16 spelled ++ numbers mode size
 
--- one line feed behind contents of an odd size
+-- one line feed after contents of an odd size
 abbrev pub padding : ℕ → List ℕ
 padding size = if size % 2 == 0 then [] else 10 ∷ []
 
@@ -58,18 +58,18 @@ table_part (Some table) = part table_name (codes "0") table
 abbrev pub archive_text : Option (List ℕ) → List ArchiveMember → List ℕ
 archive_text table members = archive_mark ++ (table_part table ++ flat_map member_text members)
 
--- a byte of a member's name
+-- whether a member's name may have a byte
 abbrev pub is_name_byte : ℕ → Bool
 is_name_byte byte = nat_le 33 byte && (nat_le byte 126 && not (byte == 47))
 
--- the name of a member: 1 to 15 such bytes
+-- whether a member may have a name: 1 to 15 such bytes
 abbrev pub is_member_name : List ℕ → Bool
 is_member_name name = nat_le 1 (length name) && (nat_le (length name) 15 && list_all is_name_byte name)
 
--- the least size that has too many digits for its field
+-- sizes from here on have too many digits for their field
 abbrev pub size_limit : ℕ
 size_limit = 10000000000
 
--- what may be a member
+-- whether an archive can have a member
 abbrev pub is_member : ArchiveMember → Bool
 is_member member = is_member_name member.name && nat_lt (length member.contents) size_limit

@@ -9,37 +9,37 @@ use Rattle.thunk_codec.specs.declared.job.Job.{Job}
 use Rattle.thunk_codec.specs.declared.job.Outcome.{Outcome}
 use Rattle.text_lines.specs.Maybe.{◌>>=◌, ◌>>◌, check}
 use Rattle.thunk_codec.specs.Thunk.{is_identifier}
-use Rattle.tool_bin.specs.declared.assembly.Assembly.{Assembly}
+use Rattle.tool_bin.specs.declared.object_builder.ObjectBuilder.{ObjectBuilder}
 use Rattle.tool_bin.specs.declared.instruction.Instruction.{Instruction}
 use Rattle.tool_bin.specs.declared.object.Object.{Object}
 use Rattle.tool_bin.specs.declared.object.Symbol.{Symbol}
 use Rattle.tool_bin.specs.declared.statement.Statement.{Statement}
 use Rattle.tool_bin.specs.declared.statement.Statement.TheVariants.{Label, Location, Code}
-use Rattle.tool_bin.specs.Assembly.{no_assembly, with_label, with_instruction, with_debug, object_in}
+use Rattle.tool_bin.specs.ObjectBuilder.{empty_builder, with_label, with_instruction, with_debug, object_in}
 use Rattle.tool_bin.specs.Instruction.{instruction_of}
-use Rattle.tool_bin.specs.Object.{object_head, object_text, keeps_rules}
-use Rattle.tool_bin.specs.Source.{plain_source_of, made_outcome}
+use Rattle.tool_bin.specs.Object.{object_head, object_text, is_well_formed}
+use Rattle.tool_bin.specs.OneOutput.{plain_source_of, made_outcome}
 
--- an identifier and a colon
+-- a label of a word that is an identifier and a colon
 abbrev pub labelled : List ℕ → Option Statement
 labelled word = do
   check (ends_with nat_eq word (58 ∷ []))
   check (is_identifier (take (length word - 1) word))
   Some (Label (take (length word - 1) word))
 
--- `NAME:`
+-- a label, `NAME:`
 abbrev pub label_of : List (List ℕ) → Option Statement
 label_of (word ∷ []) = labelled word
 label_of words = None
 
--- a canonical decimal number below 2 ^ 64 behind `.loc`
+-- a location of two words: `.loc` and a canonical decimal number below 2 ^ 64
 abbrev pub located : List ℕ → List ℕ → Option Statement
 located word text = do
   check (bytes_eq word (codes ".loc"))
   number ← number_of text
   Some (Location number)
 
--- `.loc N`
+-- a location, `.loc N`
 abbrev pub location_of : List (List ℕ) → Option Statement
 location_of (word ∷ number ∷ []) = located word number
 location_of words = None
@@ -50,46 +50,46 @@ code_of words = do
   instruction ← instruction_of words
   Some (Code instruction)
 
--- what the words of a line say
+-- the statement of a line, by its words
 abbrev pub statement_of : List (List ℕ) → Option Statement
 statement_of words = option_or (label_of words) (option_or (location_of words) (code_of words))
 
--- a location belongs to the last label, and there is one
-abbrev pub with_location : ℕ → Option Symbol → Assembly → Option Assembly
-with_location number None assembly = None
-with_location number (Some symbol) assembly = Some (with_debug symbol.name number assembly)
+-- with a location, which belongs to the last label; there has to be one
+abbrev pub with_location : ℕ → Option Symbol → ObjectBuilder → Option ObjectBuilder
+with_location number None builder = None
+with_location number (Some symbol) builder = Some (with_debug symbol.name number builder)
 
--- code belongs to the last label, and there is one
-abbrev pub with_code : Instruction → Option Symbol → Assembly → Option Assembly
-with_code instruction None assembly = None
-with_code instruction (Some symbol) assembly = Some (with_instruction instruction assembly)
+-- with an instruction, which belongs to the last label; there has to be one
+abbrev pub with_code : Instruction → Option Symbol → ObjectBuilder → Option ObjectBuilder
+with_code instruction None builder = None
+with_code instruction (Some symbol) builder = Some (with_instruction instruction builder)
 
--- a statement behind those so far
-abbrev pub with_statement : Statement → Assembly → Option Assembly
-with_statement (Label name) assembly = Some (with_label name assembly)
-with_statement (Location number) assembly = with_location number assembly.last assembly
-with_statement (Code instruction) assembly = with_code instruction assembly.last assembly
+-- with one more statement
+abbrev pub with_statement : Statement → ObjectBuilder → Option ObjectBuilder
+with_statement (Label name) builder = Some (with_label name builder)
+with_statement (Location number) builder = with_location number builder.last builder
+with_statement (Code instruction) builder = with_code instruction builder.last builder
 
--- one line more: a line of blanks is passed over
-abbrev pub with_line : List (List ℕ) → Assembly → Option Assembly
-with_line [] assembly = Some assembly
-with_line (word ∷ words) assembly = do
+-- with one more line; a line of blanks says nothing
+abbrev pub with_line : List (List ℕ) → ObjectBuilder → Option ObjectBuilder
+with_line [] builder = Some builder
+with_line (word ∷ words) builder = do
   statement ← statement_of (word ∷ words)
-  with_statement statement assembly
+  with_statement statement builder
 
--- some lines more
-abbrev pub with_lines : List (List ℕ) → Assembly → Option Assembly
-with_lines [] assembly = Some assembly
-with_lines (line ∷ lines) assembly = do
-  more ← with_line (words_of line) assembly
+-- with some more lines
+abbrev pub with_lines : List (List ℕ) → ObjectBuilder → Option ObjectBuilder
+with_lines [] builder = Some builder
+with_lines (line ∷ lines) builder = do
+  more ← with_line (words_of line) builder
   with_lines lines more
 
--- the object that a text says: each label has code, and none stands twice
+-- the object that a text is assembled into: each label has code, and no two are the same
 unfoldable pub assembled : List ℕ → Option Object
 assembled source = do
-  assembly ← with_lines (lines_of source) no_assembly
-  check (keeps_rules (object_in assembly))
-  Some (object_in assembly)
+  builder ← with_lines (lines_of source) empty_builder
+  check (is_well_formed (object_in builder))
+  Some (object_in builder)
 
 -- the text of that object
 abbrev pub assembled_text : List ℕ → Option (List ℕ)

@@ -8,14 +8,14 @@ use Rattle.thunk_codec.specs.declared.job.Job.{Job}
 use Rattle.thunk_codec.specs.declared.job.Outcome.{Outcome}
 use Rattle.text_lines.specs.Maybe.{◌>>=◌, ◌>>◌, check}
 use Rattle.thunk_codec.specs.Thunk.{is_identifier}
-use Rattle.tool_bin.specs.declared.definition.Definition.{Definition}
+use Rattle.tool_bin.specs.declared.function_definition.FunctionDefinition.{FunctionDefinition}
 use Rattle.tool_bin.specs.declared.instruction.Instruction.{Instruction}
 use Rattle.tool_bin.specs.declared.instruction.Instruction.TheVariants.{Add, Subtract, Multiply, Print, Call}
 use Rattle.tool_bin.specs.Instruction.{instruction_text, push_of}
 use Rattle.tool_bin.specs.Object.{line, are_new}
-use Rattle.tool_bin.specs.Source.{source_of, made_outcome}
+use Rattle.tool_bin.specs.OneOutput.{source_of, made_outcome}
 
--- an identifier but for `fn` and `print`
+-- whether a text is an identifier but for `fn` and `print`
 unfoldable pub is_function_name : List ℕ → Bool
 is_function_name name = is_identifier name && not (bytes_eq name (codes "fn") || bytes_eq name (codes "print"))
 
@@ -35,14 +35,14 @@ function_call_of word = do
   Some (Call word)
 
 -- what a word of a function does: a number, an operator or a call
-abbrev pub word_of : List ℕ → Option Instruction
-word_of word = option_or (push_of word) (option_or (operator_of word) (function_call_of word))
+abbrev pub instruction_of_word : List ℕ → Option Instruction
+instruction_of_word word = option_or (push_of word) (option_or (operator_of word) (function_call_of word))
 
--- what some words do, behind the instructions so far
+-- what some words do, after the instructions so far
 abbrev pub code_with : List Instruction → List (List ℕ) → Option (List Instruction)
 code_with code [] = Some code
 code_with code (word ∷ words) = do
-  instruction ← word_of word
+  instruction ← instruction_of_word word
   code_with (code ++ instruction ∷ []) words
 
 -- the name and the words of a line `fn NAME :` and words
@@ -55,21 +55,21 @@ head_of (kind ∷ name ∷ colon ∷ words) = do
 head_of words = None
 
 -- the function that the line of this number defines
-abbrev pub definition_of : ℕ → List (List ℕ) → Option Definition
+abbrev pub definition_of : ℕ → List (List ℕ) → Option FunctionDefinition
 definition_of number line = do
   head ← head_of line
   code ← code_with [] head.1
   Some (record { name = head.0; number = number; code = code })
 
--- one line more: a line of blanks is passed over
-abbrev pub with_definition : ℕ → List Definition → List (List ℕ) → Option (List Definition)
+-- with one more line; a line of blanks says nothing
+abbrev pub with_definition : ℕ → List FunctionDefinition → List (List ℕ) → Option (List FunctionDefinition)
 with_definition number made [] = Some made
 with_definition number made (word ∷ words) = do
   definition ← definition_of number (word ∷ words)
   Some (made ++ definition ∷ [])
 
--- the definitions of some lines, the first of which has this number, behind those so far
-abbrev pub definitions_with : ℕ → List Definition → List (List ℕ) → Option (List Definition)
+-- the definitions of some lines, the first of which has this number, after those so far
+abbrev pub definitions_with : ℕ → List FunctionDefinition → List (List ℕ) → Option (List FunctionDefinition)
 definitions_with number made [] = Some made
 definitions_with number made (line ∷ lines) = do
   more ← with_definition number made (words_of line)
@@ -80,19 +80,19 @@ abbrev pub location_text : Bool → ℕ → List ℕ
 location_text debugging number = if debugging then line (codes ".loc " ++ decimal number) else []
 
 -- the lines of a definition: its label, its location, its code and the return
-abbrev pub definition_text : Bool → Definition → List ℕ
+abbrev pub definition_text : Bool → FunctionDefinition → List ℕ
 definition_text debugging definition = line (definition.name ++ codes ":")
     ++ (location_text debugging definition.number
     ++ (flat_map (λ instruction. line (instruction_text instruction)) definition.code ++ line (codes "ret")))
 
--- what a source is made into: no name is defined twice
+-- the lines for the assembler that a source is made into: no two functions have one name
 unfoldable pub compiled : Bool → List ℕ → Option (List ℕ)
 compiled debugging source = do
   definitions ← definitions_with 1 [] (lines_of source)
   check (are_new [] (map (λ definition. definition.name) definitions))
   Some (flat_map (definition_text debugging) definitions)
 
--- debugging behind one argument more: those that begin with `-g` turn it on, and `-g0` off
+-- whether debugging is on after one more argument: those that begin with `-g` turn it on, and `-g0` off
 abbrev pub debugging_with : Bool → List ℕ → Bool
 debugging_with debugging arg =
     if starts_with nat_eq arg (codes "-g") then not (bytes_eq arg (codes "-g0")) else debugging

@@ -1,9 +1,9 @@
 pub mod Names
 pub mod Instruction
 pub mod Object
-pub mod Assembly
-pub mod Reading
-pub mod Source
+pub mod ObjectBuilder
+pub mod ObjectReading
+pub mod OneOutput
 pub mod Compile
 pub mod Assemble
 pub mod Strip
@@ -11,9 +11,9 @@ pub mod Archive
 pub mod ArchiveReading
 pub mod SymbolTable
 pub mod Ar
-pub mod Faults
-pub mod Linking
+pub mod FirstIndex
+pub mod LinkSteps
+pub mod Program
 pub mod Link
-pub mod Well
-pub mod Form
-pub mod Whole
+pub mod Representable
+pub mod CompleteProgram

@@ -16,7 +16,7 @@ object_head = codes "gg-obj 1"
 abbrev pub executable_head : List ℕ
 executable_head = codes "gg-exe 1"
 
--- a line
+-- a line of this text
 abbrev pub line : List ℕ → List ℕ
 line said = said ++ 10 ∷ []
 
@@ -38,37 +38,38 @@ object_text head object = line head
 abbrev pub names_of : List Symbol → List (List ℕ)
 names_of symbols = map (λ symbol. symbol.name) symbols
 
--- no name is one of those before it
+-- whether no name is one of those before it
 abbrev pub are_new : List (List ℕ) → List (List ℕ) → Bool
 are_new before [] = true
 are_new before (name ∷ names) = not (is_among name before) && are_new (before ++ name ∷ []) names
 
--- there is code
+-- whether there is code
 abbrev pub has_code : List Instruction → Bool
 has_code [] = false
 has_code (instruction ∷ others) = true
 
--- an identifier with code
+-- whether a symbol is an identifier with code
 abbrev pub is_defined : Symbol → Bool
 is_defined symbol = is_identifier symbol.name && has_code symbol.code
 
--- the symbols from the named one on
+-- the symbols from the one of this name on
 abbrev pub from_named : List ℕ → List Symbol → List Symbol
 from_named name [] = []
 from_named name (symbol ∷ symbols) = if bytes_eq symbol.name name then symbol ∷ symbols else from_named name symbols
 
--- there is a symbol
+-- whether there is a symbol
 abbrev pub has_symbol : List Symbol → Bool
 has_symbol [] = false
 has_symbol (symbol ∷ symbols) = true
 
--- debug lines stand in the order of the symbols
+-- whether debug lines stand in the order of the symbols
 abbrev pub are_in_order : List Symbol → List DebugLine → Bool
 are_in_order symbols [] = true
 are_in_order symbols (debug ∷ others) =
     let named = from_named debug.name symbols in has_symbol named && are_in_order named others
 
--- the rules on objects
-abbrev pub keeps_rules : Object → Bool
-keeps_rules object = list_all is_defined object.symbols
+-- whether an object is well-formed: each symbol is an identifier with code, no two have one name, and the debug lines stand in
+-- the order of the symbols
+abbrev pub is_well_formed : Object → Bool
+is_well_formed object = list_all is_defined object.symbols
     && (are_new [] (names_of object.symbols) && are_in_order object.symbols object.debug)

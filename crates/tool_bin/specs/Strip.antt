@@ -6,8 +6,8 @@ use Rattle.thunk_codec.specs.declared.job.Outcome.{Outcome}
 use Rattle.text_lines.specs.Maybe.{◌>>=◌}
 use Rattle.tool_bin.specs.declared.object.Object.{Object}
 use Rattle.tool_bin.specs.Object.{object_head, executable_head, object_text}
-use Rattle.tool_bin.specs.Reading.{object_of}
-use Rattle.tool_bin.specs.Source.{plain_source_of, made_outcome}
+use Rattle.tool_bin.specs.ObjectReading.{object_of}
+use Rattle.tool_bin.specs.OneOutput.{plain_source_of, made_outcome}
 
 -- an object without its debug lines
 abbrev pub without_debug : Object → Object

@@ -4,57 +4,57 @@ use Rattle.std.specs.List.{list_all, flat_map}
 use Rattle.thunk_codec.specs.Job.{count}
 use Rattle.text_lines.specs.Maybe.{◌>>=◌, ◌>>◌, check}
 use Rattle.tool_bin.specs.Archive.{ArchiveMember, archive_mark, size_limit}
-use Rattle.tool_bin.specs.Reading.{symbol_names}
+use Rattle.tool_bin.specs.ObjectReading.{symbol_names}
 
 -- the symbols that a member defines: none where it is no object
 abbrev pub symbols_of : ArchiveMember → List (List ℕ)
 symbols_of member = unwrap_or (symbol_names member.contents) []
 
--- a name in the table: it is ended by a zero byte
-abbrev pub ended : List ℕ → List ℕ
-ended name = name ++ 0 ∷ []
+-- a name in the table, with a zero byte at its end
+abbrev pub zero_terminated : List ℕ → List ℕ
+zero_terminated name = name ++ 0 ∷ []
 
 -- how many bytes of an archive a part of this size takes: its header, its contents and their padding
 abbrev pub part_len : ℕ → ℕ
 part_len size = 60 + size + size % 2
 
--- for each symbol the place of its member, where the first member stands at this place
-unfoldable pub places_from : ℕ → List ArchiveMember → List ℕ
-places_from place [] = []
-places_from place (member ∷ members) =
-    replicate (length (symbols_of member)) place ++ places_from (place + part_len (length member.contents)) members
+-- for each symbol the offset of its member, where that of the first member is given
+unfoldable pub offsets_from : ℕ → List ArchiveMember → List ℕ
+offsets_from offset [] = []
+offsets_from offset (member ∷ members) =
+    replicate (length (symbols_of member)) offset ++ offsets_from (offset + part_len (length member.contents)) members
 
--- where the part behind some members stands, the first of which stands at this place
-abbrev pub place_behind : ℕ → List ArchiveMember → ℕ
-place_behind place members = place + sum_by (λ member. part_len (length member.contents)) members
+-- the offset of the part after some members, where that of the first is given
+abbrev pub offset_after : ℕ → List ArchiveMember → ℕ
+offset_after offset members = offset + sum_by (λ member. part_len (length member.contents)) members
 
--- the size of a table of so many symbols, whose ended names have so many bytes together
+-- the size of a table of so many symbols, whose names with zero bytes have so many bytes together
 abbrev pub table_size : ℕ → ℕ → ℕ
 table_size symbols names = 4 + 4 * symbols + names
 
--- where the first member stands behind a table of this size
-abbrev pub first_place : ℕ → ℕ
-first_place size = length archive_mark + part_len size
+-- the offset of the first member after a table of this size
+abbrev pub first_offset : ℕ → ℕ
+first_offset size = length archive_mark + part_len size
 
--- a count or a place that the table can hold
-abbrev pub is_word : ℕ → Bool
-is_word n = nat_lt n (2 ^ 32)
+-- whether the table can hold a count or an offset
+abbrev pub fits_word : ℕ → Bool
+fits_word n = nat_lt n (2 ^ 32)
 
 -- a number in the table, if it can hold it
-abbrev pub word_of : ℕ → Option ℕ
-word_of n = if is_word n then Some n else None
+abbrev pub table_word : ℕ → Option ℕ
+table_word n = if fits_word n then Some n else None
 
--- these places in the table, if it can hold them
-abbrev pub words_of : List ℕ → Option (List ℕ)
-words_of places = do
-  check (list_all is_word places)
-  Some (flat_map count places)
+-- these offsets in the table, if it can hold them
+abbrev pub table_words : List ℕ → Option (List ℕ)
+table_words offsets = do
+  check (list_all fits_word offsets)
+  Some (flat_map count offsets)
 
--- the table of so many symbols with these places and ended names, if it can hold them
+-- the table of so many symbols with these offsets and these names with zero bytes, if it can hold them
 abbrev pub table_with : ℕ → List ℕ → List ℕ → Option (List ℕ)
-table_with symbols places names = do
-  check (is_word symbols)
-  words ← words_of places
+table_with symbols offsets names = do
+  check (fits_word symbols)
+  words ← table_words offsets
   Some (count symbols ++ (words ++ names))
 
 -- the size of a table, where a part may have it
@@ -65,9 +65,9 @@ size_within size = if nat_lt size size_limit then Some size else None
 unfoldable pub table_of : List ArchiveMember → Option (List ℕ)
 table_of members =
     let symbols = flat_map symbols_of members in
-    let names = flat_map ended symbols in do
+    let names = flat_map zero_terminated symbols in do
       size ← size_within (table_size (length symbols) (length names))
-      table_with (length symbols) (places_from (first_place size) members) names
+      table_with (length symbols) (offsets_from (first_offset size) members) names
 
 -- a number, or the greatest of 64 bits where it is greater
 abbrev pub capped : ℕ → ℕ

@@ -4,16 +4,18 @@ ghost use Rattle.std.specs.Prelude.{◌≡◌, IfOk};
 ghost use Rattle.std.specs.List.{list_all};
 ghost use Rattle.std.specs.Option.{option_copied};
 ghost use Rattle.tool_bin.specs.Archive.{is_member};
-ghost use Rattle.tool_bin.specs.Ar.{ar_outcome, archive_with, before, made, made_outcome, outcome_of, ranlib_outcome};
+ghost use Rattle.tool_bin.specs.Ar.{ar_outcome, archive_for, archive_with, old_contents, ranlib_outcome};
+ghost use Rattle.tool_bin.specs.OneOutput.{made_outcome};
 
 use crate::archive::{Archive, Member, SIZE_LIMIT, read_archive};
 use crate::archive_reading::is_member_name;
-use crate::archive_task::{ArchiveTask, asked_of, listing};
+use crate::archive_task::{ArchiveTask, table_task, task_of};
 use crate::archive_writing::write_archive;
-use crate::putting::put_all;
+use crate::member_insertion::put_all;
+use crate::one_output::output_outcome;
 use crate::status::{BAD_ARCHIVE, BAD_FORM};
 use crate::symbol_table::table_of;
-use object_name::{Bytes, Many};
+use object_name::Bytes;
 use std::alloc::{AllocError, Global};
 use thunk_codec::{Job, Outcome};
 
@@ -34,9 +36,9 @@ fn are_members(members: &[Member<'_>]) -> bool
     members.iter().all(|member| is_member(member))
 }
 
-/// What the archive before holds: nothing, where there is none.
-fn before<'a>(alloc: Global, old: Option<&'a [u8]>) -> Result<Option<Archive<'a>>, AllocError>
-    ensures { IfOk result (λ archive. archive ≡ before (option_copied old.entry)) }
+/// What the old archive holds: nothing, where there is none.
+fn old_contents<'a>(alloc: Global, old: Option<&'a [u8]>) -> Result<Option<Archive<'a>>, AllocError>
+    ensures { IfOk result (λ archive. archive ≡ old_contents (option_copied old.entry)) }
 {
     match old {
         None => Ok(Some(Archive::new(alloc))),
@@ -61,11 +63,11 @@ fn archive_with(
     Ok(Some(write_archive(alloc, Some(table.as_slice()), members)?))
 }
 
-/// The archive that is asked for.
-fn made(alloc: Global, task: &ArchiveTask<'_>) -> Result<Option<Bytes>, AllocError>
-    ensures { IfOk result (λ archive. archive ≡ made task.now) }
+/// The archive that a task asks for, if there can be one.
+fn archive_for(alloc: Global, task: &ArchiveTask<'_>) -> Result<Option<Bytes>, AllocError>
+    ensures { IfOk result (λ archive. archive ≡ archive_for task.now) }
 {
-    let Some(old) = before(alloc, task.old())? else {
+    let Some(old) = old_contents(alloc, task.old())? else {
         return Ok(None);
     };
     if !are_members(task.members()) {
@@ -73,30 +75,18 @@ fn made(alloc: Global, task: &ArchiveTask<'_>) -> Result<Option<Bytes>, AllocErr
     }
     let has_table = task.wants_table() || old.has_table();
     let mut members = old.into_members();
-    put_all(&mut members, task.members())?;
+    put_all(alloc, &mut members, task.members())?;
     archive_with(alloc, has_table, members.as_slice())
 }
 
-/// The outcome with an archive, if there is one.
-fn made_outcome(alloc: Global, archive: Option<Bytes>) -> Result<Outcome, AllocError>
-    ensures { IfOk result (λ outcome. outcome ≡ made_outcome archive) }
-{
-    let Some(bytes) = archive else {
-        return Ok(Outcome::Failed(BAD_ARCHIVE));
-    };
-    let mut outputs = Many::new(alloc);
-    outputs.push(bytes)?;
-    Ok(Outcome::Done(outputs))
-}
-
-/// The outcome of what is asked for.
-fn outcome_of(alloc: Global, task: Option<ArchiveTask<'_>>) -> Result<Outcome, AllocError>
-    ensures { IfOk result (λ outcome. outcome ≡ outcome_of task.entry) }
+/// The outcome of a task.
+fn task_outcome(alloc: Global, task: Option<ArchiveTask<'_>>) -> Result<Outcome, AllocError>
+    ensures { IfOk result (λ outcome. outcome ≡ made_outcome 83 archive_for task.entry) }
 {
     let Some(task) = task else {
         return Ok(Outcome::Failed(BAD_FORM));
     };
-    made_outcome(alloc, made(alloc, &task)?)
+    output_outcome(alloc, BAD_ARCHIVE, archive_for(alloc, &task)?)
 }
 
 /// The outcome of a job of the card `ar`.
@@ -106,9 +96,9 @@ pub fn ar(alloc: Global, job: &Job) -> Result<Outcome, AllocError>
     if job.outputs.len() != 1 {
         return Ok(Outcome::Failed(BAD_FORM));
     }
-    outcome_of(
+    task_outcome(
         alloc,
-        asked_of(alloc, job.args.as_slice(), job.inputs.as_slice())?,
+        task_of(alloc, job.args.as_slice(), job.inputs.as_slice())?,
     )
 }
 
@@ -122,5 +112,5 @@ pub fn ranlib(alloc: Global, job: &Job) -> Result<Outcome, AllocError>
     if !job.args.is_empty() {
         return Ok(Outcome::Failed(BAD_FORM));
     }
-    outcome_of(alloc, listing(alloc, job.inputs.as_slice()))
+    task_outcome(alloc, table_task(alloc, job.inputs.as_slice()))
 }

@@ -3,7 +3,7 @@
 ghost use Rattle.std.specs.Prelude.{◌≡◌, [], false, IfOk};
 ghost use Rattle.tool_bin.specs.ArchiveReading.{archive_of, begins_with_table, with_table, without_table};
 
-use crate::archive_reading::{all_members, behind_table};
+use crate::archive_reading::{after_table, all_members};
 use object_name::Many;
 use std::alloc::{AllocError, Global};
 use std::marker::Model;
@@ -12,10 +12,10 @@ use text_lines::strip_prefix;
 /// What every archive begins with.
 pub const ARCHIVE_MARK: &[u8] = b"!<arch>\n";
 
-/// The name field of a table of symbols.
+/// The name field of the header of a table of symbols.
 pub const TABLE_FIELD: &[u8] = b"/               ";
 
-/// The least size that has too many digits for a header.
+/// Sizes from here on have too many digits for a header.
 pub const SIZE_LIMIT: u64 = 10_000_000_000;
 
 /// A member of an archive: its name and its contents. Contracts see both as lists.
@@ -110,11 +110,11 @@ fn begins_with_table(bytes: &[u8]) -> bool
     bytes.starts_with(TABLE_FIELD)
 }
 
-/// What stands behind the mark, if there is a table.
+/// What an archive holds whose bytes after the mark begin with a table.
 fn with_table(alloc: Global, bytes: &[u8]) -> Result<Option<Archive<'_>>, AllocError>
     ensures { IfOk result (λ read. read ≡ with_table bytes.now) }
 {
-    let Some(rest) = behind_table(bytes) else {
+    let Some(rest) = after_table(bytes) else {
         return Ok(None);
     };
     let Some(members) = all_members(alloc, rest)? else {
@@ -126,7 +126,7 @@ fn with_table(alloc: Global, bytes: &[u8]) -> Result<Option<Archive<'_>>, AllocE
     }))
 }
 
-/// What stands behind the mark, if there is no table.
+/// What an archive without a table holds, by its bytes after the mark.
 fn without_table(alloc: Global, bytes: &[u8]) -> Result<Option<Archive<'_>>, AllocError>
     ensures { IfOk result (λ read. read ≡ without_table bytes.now) }
 {
@@ -140,7 +140,7 @@ fn without_table(alloc: Global, bytes: &[u8]) -> Result<Option<Archive<'_>>, All
 }
 
 /// What the archive with these bytes holds. None where they are no archive: where they don't begin with the mark, or a part
-/// isn't of its form or ends too early.
+/// isn't well-formed or ends too early.
 #[tactic(auto, unfolding(crate::specs::ArchiveReading::archive_of))]
 pub fn read_archive(alloc: Global, bytes: &[u8]) -> Result<Option<Archive<'_>>, AllocError>
     ensures { IfOk result (λ read. read ≡ archive_of bytes.now) }

@@ -1,4 +1,4 @@
-//! Reading the parts of an archive from the prefix.
+//! Reading the parts of an archive, one after another.
 
 ghost use Rattle.std.specs.Prelude.{◌≡◌, ◌<◌, ◌≤◌, EachIndex, IfOk, IfSome, length, position, slice_index, take_while, true};
 ghost use Rattle.std.specs.Char.{is_ascii_digit};
@@ -7,7 +7,7 @@ ghost use Rattle.std.specs.List.{list_all};
 ghost use Rattle.std.specs.Option.{option_copied, option_map};
 ghost use Rattle.text_lines.specs.Cuts.{strip_prefix};
 ghost use Rattle.tool_bin.specs.Archive.{is_member_name, is_name_byte, padding};
-ghost use Rattle.tool_bin.specs.ArchiveReading.{all_members, behind_table, contents_at, header_at, is_slash, is_space, member_at, name_in, name_of, size_in, size_of};
+ghost use Rattle.tool_bin.specs.ArchiveReading.{all_members, after_table, contents_at, header_at, is_slash, is_space, member_at, name_in, member_name_of, size_in, member_size_of};
 
 use crate::archive::Member;
 use object_name::Many;
@@ -20,7 +20,7 @@ const HEADER_LEN: usize = 60;
 /// What every header ends with.
 const HEADER_END: &[u8] = b"`\n";
 
-/// Whether there are spaces alone.
+/// Whether all bytes are spaces.
 fn are_spaces(bytes: &[u8]) -> bool
     ensures { result ≡ list_all is_space bytes.now }
 {
@@ -54,15 +54,15 @@ pub fn is_member_name(name: &[u8]) -> bool
     are_name_bytes(name)
 }
 
-/// The place of the first `/`.
+/// The index of the first `/`.
 fn slash_in(bytes: &[u8]) -> Option<usize>
-    ensures place { result ≡ position is_slash bytes.now }
-    ensures within { IfSome result (λ place. place < length bytes.now) }
+    ensures index { result ≡ position is_slash bytes.now }
+    ensures within { IfSome result (λ index. index < length bytes.now) }
 {
     bytes.iter().position(|byte| *byte == b'/')
 }
 
-/// The name that the name field of a member says.
+/// The name in the name field of a member's header.
 #[tactic(auto, unfolding(crate::specs::ArchiveReading::name_in))]
 fn name_in(field: &[u8]) -> Option<&[u8]>
     ensures { option_copied result ≡ name_in field.now }
@@ -77,7 +77,7 @@ fn name_in(field: &[u8]) -> Option<&[u8]>
     Some(&field[..end])
 }
 
-/// How many digits stand at the beginning.
+/// The number of digits at the beginning.
 fn digits_len(bytes: &[u8]) -> usize
     ensures digits { result ≡ length (take_while is_ascii_digit bytes.now) }
     ensures within { result ≤ length bytes.now }
@@ -101,7 +101,7 @@ fn digits_value(digits: &[u8]) -> u64
     value
 }
 
-/// The size that a size field says.
+/// The size in the size field of a header.
 #[tactic(auto, unfolding(crate::specs::ArchiveReading::size_in))]
 fn size_in(field: &[u8]) -> Option<u64>
     requires { length field.now ≤ 10 }
@@ -117,7 +117,7 @@ fn size_in(field: &[u8]) -> Option<u64>
     Some(digits_value(&field[..len]))
 }
 
-/// The header at the beginning, and what stands behind it.
+/// The header at the beginning, and the rest.
 fn header_at(bytes: &[u8]) -> Option<(&[u8], &[u8])>
     ensures cut { option_map (λ x. (x.0.now, x.1.now)) result ≡ header_at bytes.now }
     ensures len { IfSome result (λ x. length x.0.now ≡ 60) }
@@ -128,18 +128,18 @@ fn header_at(bytes: &[u8]) -> Option<(&[u8], &[u8])>
     Some(bytes.split_at(HEADER_LEN))
 }
 
-/// The name that a member's header says.
-fn name_of(header: &[u8]) -> Option<&[u8]>
+/// The name in a member's header.
+fn member_name_of(header: &[u8]) -> Option<&[u8]>
     requires { length header.now ≡ 60 }
-    ensures { option_copied result ≡ name_of header.now }
+    ensures { option_copied result ≡ member_name_of header.now }
 {
     name_in(&header[..16])
 }
 
-/// The size that a header says.
-fn size_of(header: &[u8]) -> Option<u64>
+/// The size in a header.
+fn member_size_of(header: &[u8]) -> Option<u64>
     requires { length header.now ≡ 60 }
-    ensures { result ≡ size_of header.now }
+    ensures { result ≡ member_size_of header.now }
 {
     if !header.ends_with(HEADER_END) {
         return None;
@@ -147,7 +147,7 @@ fn size_of(header: &[u8]) -> Option<u64>
     size_in(&header[48..58])
 }
 
-/// What comes after the padding of contents of this size. None where the bytes do not begin with it.
+/// The bytes after the padding of contents of this size. None where they don't begin with it.
 fn after_padding(size: u64, bytes: &[u8]) -> Option<&[u8]>
     ensures { option_copied result ≡ strip_prefix (padding size) bytes.now }
 {
@@ -157,7 +157,7 @@ fn after_padding(size: u64, bytes: &[u8]) -> Option<&[u8]>
     strip_prefix(b"\n", bytes)
 }
 
-/// Contents of this size, and what stands behind their padding.
+/// Contents of this size, and the bytes after their padding.
 #[tactic(auto, unfolding(crate::specs::ArchiveReading::contents_at))]
 fn contents_at(size: u64, bytes: &[u8]) -> Option<(&[u8], &[u8])>
     ensures { option_map (λ x. (x.0.now, x.1.now)) result ≡ contents_at size bytes.now }
@@ -165,35 +165,35 @@ fn contents_at(size: u64, bytes: &[u8]) -> Option<(&[u8], &[u8])>
     if size > bytes.len() as u64 {
         return None;
     }
-    let (contents, behind) = bytes.split_at(size as usize);
-    let rest = after_padding(size, behind)?;
+    let (contents, after) = bytes.split_at(size as usize);
+    let rest = after_padding(size, after)?;
     Some((contents, rest))
 }
 
-/// The member at the beginning, and what stands behind it.
+/// The member at the beginning, and the rest.
 #[tactic(auto, unfolding(crate::specs::ArchiveReading::member_at))]
 fn member_at(bytes: &[u8]) -> Option<(Member<'_>, &[u8])>
     ensures { option_map (λ x. (x.0, x.1.now)) result ≡ member_at bytes.now }
 {
     let (header, body) = header_at(bytes)?;
-    let name = name_of(header)?;
-    let size = size_of(header)?;
+    let name = member_name_of(header)?;
+    let size = member_size_of(header)?;
     let (contents, rest) = contents_at(size, body)?;
     Some((Member::new(name, contents), rest))
 }
 
-/// What stands behind the table at the beginning.
-#[tactic(auto, unfolding(crate::specs::ArchiveReading::behind_table))]
-pub fn behind_table(bytes: &[u8]) -> Option<&[u8]>
-    ensures { option_copied result ≡ behind_table bytes.now }
+/// The bytes after the table at the beginning.
+#[tactic(auto, unfolding(crate::specs::ArchiveReading::after_table))]
+pub fn after_table(bytes: &[u8]) -> Option<&[u8]>
+    ensures { option_copied result ≡ after_table bytes.now }
 {
     let (header, body) = header_at(bytes)?;
-    let size = size_of(header)?;
+    let size = member_size_of(header)?;
     let (_, rest) = contents_at(size, body)?;
     Some(rest)
 }
 
-/// Members to the end.
+/// The members that the bytes are, up to their end.
 pub fn all_members(alloc: Global, bytes: &[u8]) -> Result<Option<Many<Member<'_>>>, AllocError>
     ensures { IfOk result (λ members. members ≡ all_members bytes.now) }
 {

@@ -2,18 +2,18 @@
 
 ghost use Rattle.std.specs.Prelude.{◌≡◌, IfOk};
 ghost use Rattle.std.specs.Option.{option_copied, option_map};
-ghost use Rattle.tool_bin.specs.Ar.{asked_of, given_from, listing, maybe_old, member_from, member_path, putting, the_old};
+ghost use Rattle.tool_bin.specs.Ar.{insertion_task, member_from, member_path, members_from, optional_old, table_task, task_of};
 
 use crate::archive::Member;
 use object_name::{Bytes, Many, write_number};
 use std::alloc::{AllocError, Global};
 use std::marker::Model;
-use thunk_codec::Path;
+use thunk_codec::{Path, only_input};
 
-/// As many zeros as the number in a path has digits at least.
+/// The number in a path is padded to so many digits.
 const ZEROS: &[u8] = b"0000";
 
-/// What is asked for: whether there is to be a table, the members to put in, and the archive before, if there is one.
+/// What is asked for: whether there is to be a table of symbols, the members to put in, and the old archive, if there is one.
 #[derive(Drop)]
 pub struct ArchiveTask<'a> {
     wants_table: bool,
@@ -45,7 +45,7 @@ impl<'a> ArchiveTask<'a> {
         self.members.as_slice()
     }
 
-    /// The archive before, if there is one.
+    /// The old archive, if there is one.
     pub fn old(&self) -> Option<&'a [u8]>
         ensures { option_copied result ≡ self.now.old }
     {
@@ -81,13 +81,13 @@ fn member_from<'a>(
     Ok(Some(Member::new(name, input.1.as_slice())))
 }
 
-/// The members with these names whose contents are the inputs from the first on, and the inputs behind them.
-fn given<'a>(
+/// The members with these names, whose contents are the first inputs, and the other inputs.
+fn given_members<'a>(
     alloc: Global,
     names: &'a [Bytes],
     inputs: &'a [(Path, Bytes)],
 ) -> Result<Option<(Many<Member<'a>>, &'a [(Path, Bytes)])>, AllocError>
-    ensures { IfOk result (λ read. option_map (λ x. (x.0, x.1.now)) read ≡ given_from 0 names.now inputs.now) }
+    ensures { IfOk result (λ read. option_map (λ x. (x.0, x.1.now)) read ≡ members_from 0 names.now inputs.now) }
 {
     let mut members = Many::new(alloc);
     let mut rest = inputs;
@@ -104,35 +104,22 @@ fn given<'a>(
     Ok(Some((members, rest)))
 }
 
-/// The contents of the one input `old`.
-fn the_old(inputs: &[(Path, Bytes)]) -> Option<&[u8]>
-    ensures { option_copied result ≡ the_old inputs.now }
-{
-    let [(path, contents)] = inputs else {
-        return None;
-    };
-    if path.text() != b"old".as_slice() {
-        return None;
-    }
-    Some(contents.as_slice())
-}
-
-/// The same, where the input may be absent.
-fn maybe_old(inputs: &[(Path, Bytes)]) -> Option<Option<&[u8]>>
-    ensures { option_map option_copied result ≡ maybe_old inputs.now }
+/// The contents of the one input `old`, which may be absent.
+fn optional_old(inputs: &[(Path, Bytes)]) -> Option<Option<&[u8]>>
+    ensures { option_map option_copied result ≡ optional_old inputs.now }
 {
     if inputs.is_empty() {
         return Some(None);
     }
-    let old = the_old(inputs)?;
+    let old = only_input(inputs, b"old")?;
     Some(Some(old))
 }
 
-/// What asks for a table in the archive before.
-pub fn listing(alloc: Global, inputs: &[(Path, Bytes)]) -> Option<ArchiveTask<'_>>
-    ensures { result ≡ listing inputs.now }
+/// The task to give the old archive a table.
+pub fn table_task(alloc: Global, inputs: &[(Path, Bytes)]) -> Option<ArchiveTask<'_>>
+    ensures { result ≡ table_task inputs.now }
 {
-    let old = the_old(inputs)?;
+    let old = only_input(inputs, b"old")?;
     Some(ArchiveTask {
         wants_table: true,
         members: Many::new(alloc),
@@ -140,19 +127,19 @@ pub fn listing(alloc: Global, inputs: &[(Path, Bytes)]) -> Option<ArchiveTask<'_
     })
 }
 
-/// What asks for members to be put in.
-fn putting<'a>(
+/// The task to put members in.
+fn insertion_task<'a>(
     alloc: Global,
     wants_table: bool,
     names: &'a [Bytes],
     inputs: &'a [(Path, Bytes)],
 ) -> Result<Option<ArchiveTask<'a>>, AllocError>
-    ensures { IfOk result (λ task. task ≡ putting wants_table names.now inputs.now) }
+    ensures { IfOk result (λ task. task ≡ insertion_task wants_table names.now inputs.now) }
 {
-    let Some((members, rest)) = given(alloc, names, inputs)? else {
+    let Some((members, rest)) = given_members(alloc, names, inputs)? else {
         return Ok(None);
     };
-    let Some(old) = maybe_old(rest) else {
+    let Some(old) = optional_old(rest) else {
         return Ok(None);
     };
     Ok(Some(ArchiveTask {
@@ -162,21 +149,21 @@ fn putting<'a>(
     }))
 }
 
-/// What the arguments and the inputs of a job of `ar` ask for.
-pub fn asked_of<'a>(
+/// The task that the arguments and the inputs of a job of `ar` ask for.
+pub fn task_of<'a>(
     alloc: Global,
     args: &'a [Bytes],
     inputs: &'a [(Path, Bytes)],
 ) -> Result<Option<ArchiveTask<'a>>, AllocError>
-    ensures { IfOk result (λ task. task ≡ asked_of args.now inputs.now) }
+    ensures { IfOk result (λ task. task ≡ task_of args.now inputs.now) }
 {
     let [letters, names @ ..] = args else {
         return Ok(None);
     };
     match letters.as_slice() {
-        b"r" => putting(alloc, false, names, inputs),
-        b"rs" => putting(alloc, true, names, inputs),
-        b"s" if names.is_empty() => Ok(listing(alloc, inputs)),
+        b"r" => insertion_task(alloc, false, names, inputs),
+        b"rs" => insertion_task(alloc, true, names, inputs),
+        b"s" if names.is_empty() => Ok(table_task(alloc, inputs)),
         _ => Ok(None),
     }
 }

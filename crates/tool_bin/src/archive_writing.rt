@@ -9,7 +9,7 @@ use crate::archive::{ARCHIVE_MARK, Member, TABLE_FIELD};
 use object_name::{Bytes, write_number};
 use std::alloc::{AllocError, Global};
 
-/// As many spaces as the longest field has.
+/// As many spaces as the longest field has bytes.
 const SPACES: &[u8] = b"                ";
 
 /// Appends a text, filled with spaces on the right.
@@ -21,7 +21,7 @@ fn write_field(width: usize, text: &[u8], out: &mut Bytes) -> Result<(), AllocEr
     out.append(&SPACES[..width.saturating_sub(text.len())])
 }
 
-/// Appends the fields of a header behind the name.
+/// Appends the fields of a header after the name.
 #[tactic(auto, unfolding(crate::specs::Archive::numbers))]
 fn write_numbers(alloc: Global, mode: &[u8], size: usize, out: &mut Bytes) -> Result<(), AllocError>
     ensures { OnOk result (out.new ≡ out.old ++ numbers mode.now size) }
@@ -103,7 +103,7 @@ fn write_members(alloc: Global, members: &[Member<'_>], out: &mut Bytes) -> Resu
     Ok(())
 }
 
-/// The archive of a table, if there is one, and members.
+/// The text of an archive: a table of symbols, if there is one, and members.
 pub fn write_archive(
     alloc: Global,
     table: Option<&[u8]>,

@@ -7,23 +7,23 @@ ghost use Rattle.text_lines.specs.Lines.{lines_of};
 ghost use Rattle.tool_bin.specs.Compile.{with_definition, definitions_with, location_text, definition_text, compiled, debugging_with, is_debugging, cc1_outcome};
 ghost use Rattle.tool_bin.specs.Object.{are_new};
 
-use crate::definition::{Definition, read_definition};
+use crate::function_definition::{FunctionDefinition, read_definition};
 use crate::names::Names;
 use crate::object::write_code;
-use crate::source::{source_of, text_outcome};
+use crate::one_output::{output_outcome, source_of};
 use crate::status::{BAD_FORM, BAD_SOURCE_LINE};
 use object_name::{Bytes, Many, write_number};
 use std::alloc::{AllocError, Global};
 use text_lines::{next_line, next_word};
 use thunk_codec::{Job, Outcome};
 
-/// One line more.
+/// The definitions with what one more line defines.
 fn with_definition(
     alloc: Global,
     number: u64,
-    made: Many<Definition>,
+    made: Many<FunctionDefinition>,
     line: &[u8],
-) -> Result<Option<Many<Definition>>, AllocError>
+) -> Result<Option<Many<FunctionDefinition>>, AllocError>
     ensures { IfOk result (λ more. more ≡ with_definition number made (words_of line.now)) }
 {
     if next_word(line).is_none() {
@@ -38,7 +38,10 @@ fn with_definition(
 }
 
 /// The definitions of a text.
-fn read_definitions(alloc: Global, text: &[u8]) -> Result<Option<Many<Definition>>, AllocError>
+fn read_definitions(
+    alloc: Global,
+    text: &[u8],
+) -> Result<Option<Many<FunctionDefinition>>, AllocError>
     ensures { IfOk result (λ made. made ≡ definitions_with 1 [] (lines_of text.now)) }
 {
     let mut made = Many::new(alloc);
@@ -55,8 +58,8 @@ fn read_definitions(alloc: Global, text: &[u8]) -> Result<Option<Many<Definition
     Ok(Some(made))
 }
 
-/// Whether no name is defined twice.
-fn are_new(alloc: Global, definitions: &[Definition]) -> Result<bool, AllocError>
+/// Whether no two functions have one name.
+fn are_new(alloc: Global, definitions: &[FunctionDefinition]) -> Result<bool, AllocError>
     ensures { IfOk result (λ new. new ≡ are_new [] (map (λ definition. definition.name) definitions.now)) }
 {
     let mut seen = Names::new(alloc);
@@ -85,7 +88,7 @@ fn write_location(debugging: bool, number: u64, out: &mut Bytes) -> Result<(), A
 /// Appends the lines of a definition.
 fn write_definition(
     debugging: bool,
-    definition: &Definition,
+    definition: &FunctionDefinition,
     out: &mut Bytes,
 ) -> Result<(), AllocError>
     ensures { OnOk result (out.new ≡ out.old ++ definition_text debugging definition.now) }
@@ -101,7 +104,7 @@ fn write_definition(
 fn write_definitions(
     alloc: Global,
     debugging: bool,
-    definitions: &[Definition],
+    definitions: &[FunctionDefinition],
 ) -> Result<Bytes, AllocError>
     ensures { IfOk result (λ text. text ≡ flat_map (definition_text debugging) definitions.now) }
 {
@@ -112,7 +115,7 @@ fn write_definitions(
     Ok(out)
 }
 
-/// What a source is made into.
+/// The lines for the assembler that a source is made into.
 #[tactic(auto, unfolding(crate::specs::Compile::compiled))]
 fn compile(alloc: Global, debugging: bool, source: &[u8]) -> Result<Option<Bytes>, AllocError>
     ensures { IfOk result (λ text. text ≡ compiled debugging source.now) }
@@ -126,7 +129,7 @@ fn compile(alloc: Global, debugging: bool, source: &[u8]) -> Result<Option<Bytes
     Ok(Some(write_definitions(alloc, debugging, definitions.as_slice())?))
 }
 
-/// Debugging behind one argument more.
+/// Whether debugging is on after one more argument.
 fn debugging_with(debugging: bool, arg: &[u8]) -> bool
     ensures { result ≡ debugging_with debugging arg.now }
 {
@@ -154,5 +157,5 @@ pub fn cc1(alloc: Global, job: &Job) -> Result<Outcome, AllocError>
     };
     let debugging = is_debugging(job.args.as_slice());
     let text = compile(alloc, debugging, source)?;
-    text_outcome(alloc, BAD_SOURCE_LINE, text)
+    output_outcome(alloc, BAD_SOURCE_LINE, text)
 }

@@ -8,20 +8,20 @@ mod archive_reading;
 mod archive_task;
 mod archive_writing;
 mod as_tool;
-mod assembly;
 mod cc1_tool;
-mod definition;
+mod function_definition;
 mod instruction;
 pub mod laws;
 mod ld_tool;
 mod link_fault;
-mod linking;
+mod member_insertion;
 mod names;
 mod object;
+mod object_builder;
 mod object_reading;
-mod putting;
-mod rules;
-mod source;
+mod object_rules;
+mod one_output;
+mod program;
 mod statement;
 mod status;
 mod strip_tool;
@@ -36,14 +36,3 @@ pub use ld_tool::ld;
 pub use object::{DebugLine, EXECUTABLE_HEAD, OBJECT_HEAD, Object, Symbol, write_object};
 pub use object_reading::{read_object, symbol_names};
 pub use strip_tool::strip;
-
-#[cfg(test)]
-mod archive_tests;
-#[cfg(test)]
-mod compile_tests;
-#[cfg(test)]
-mod link_tests;
-#[cfg(test)]
-mod test_jobs;
-#[cfg(test)]
-mod tests;

@@ -1,6 +1,6 @@
-//! Names, each of them once.
+//! Sets of names.
 
-ghost use Rattle.std.specs.Prelude.{◌≡◌, [], not, IfOk, OnOk};
+ghost use Rattle.std.specs.Prelude.{◌≡◌, [], fold, not, IfOk, OnOk};
 ghost use Rattle.std.specs.List.{list_all};
 ghost use Rattle.tool_bin.specs.Names.{is_among, with_name};
 
@@ -9,7 +9,7 @@ use object_name::Bytes;
 use std::alloc::{AllocError, Global};
 use std::marker::Model;
 
-/// Names in the order in which they came.
+/// A set of names, in the order in which they came.
 #[derive(Drop)]
 pub(crate) struct Names(IndexSet<Bytes>);
 
@@ -28,21 +28,34 @@ impl Names {
         Names(IndexSet::new(alloc))
     }
 
-    /// Whether a name is among them.
+    /// The set of some texts.
+    pub(crate) fn of(alloc: Global, texts: &[Bytes]) -> Result<Self, AllocError>
+        ensures { IfOk result (λ names. names ≡ fold with_name [] texts.now) }
+    {
+        let mut names = Names::new(alloc);
+        let mut rest = texts;
+        'texts: while let [text, others @ ..] = rest {
+            names.add(alloc, text)?;
+            rest = others;
+        }
+        Ok(names)
+    }
+
+    /// Whether a name is one of them.
     pub(crate) fn contains(&self, name: &Bytes) -> bool
         ensures { result ≡ is_among name.now self.now }
     {
         self.0.contains(name)
     }
 
-    /// Whether all are among others.
+    /// Whether each of them is one of others.
     pub(crate) fn are_among(&self, others: &Names) -> bool
         ensures { result ≡ list_all (λ name. is_among name others.now) self.now }
     {
         self.0.as_slice().iter().all(|name| others.contains(name))
     }
 
-    /// Puts a name behind the others where it is new, and says whether it was.
+    /// Adds a name after the others where it is new, and says whether it was.
     pub(crate) fn add(&mut self, alloc: Global, name: &Bytes) -> Result<bool, AllocError>
         ensures new { IfOk result (λ added. added ≡ not (is_among name.now self.old)) }
         ensures names { OnOk result (self.new ≡ with_name self.old name.now) }

@@ -15,21 +15,21 @@ pub const OBJECT_HEAD: &[u8] = b"gg-obj 1";
 /// The first line of an executable.
 pub const EXECUTABLE_HEAD: &[u8] = b"gg-exe 1";
 
-/// A name and the code that it stands for.
+/// A symbol: a name and the code that it stands for.
 #[derive(Debug, Drop)]
 pub struct Symbol {
     pub name: Bytes,
     pub code: Many<Instruction>,
 }
 
-/// The number of a source line, for the symbol that it made.
+/// A debug line: the number of a source line, for the symbol that it made.
 #[derive(Debug, Drop)]
 pub struct DebugLine {
     pub name: Bytes,
     pub number: u64,
 }
 
-/// What the assembler makes of a text.
+/// An object, which the assembler makes of a text. An executable is one too, with another first line.
 #[derive(Debug, Drop)]
 pub struct Object {
     pub symbols: Many<Symbol>,
@@ -65,7 +65,7 @@ pub(crate) fn write_code(code: &[Instruction], out: &mut Bytes) -> Result<(), Al
     Ok(())
 }
 
-/// Appends a kind of line, a name and a number.
+/// Appends a line of a word, a name and a number.
 fn write_numbered(kind: &[u8], name: &Bytes, number: u64, out: &mut Bytes) -> Result<(), AllocError>
     ensures { OnOk result (out.new ≡ out.old ++ line (kind.now ++ (name.now ++ 32 ∷ decimal number))) }
 {

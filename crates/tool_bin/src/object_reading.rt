@@ -4,15 +4,15 @@ ghost use Rattle.std.specs.Prelude.{◌≡◌, Some, None, IfOk, MatchOption};
 ghost use Rattle.object_name.specs.Number.{number_of};
 ghost use Rattle.text_lines.specs.Blanks.{words_of};
 ghost use Rattle.text_lines.specs.Lines.{lines_of};
-ghost use Rattle.tool_bin.specs.Assembly.{no_assembly, object_in};
+ghost use Rattle.tool_bin.specs.ObjectBuilder.{empty_builder, object_in};
 ghost use Rattle.tool_bin.specs.Instruction.{instruction_of};
 ghost use Rattle.tool_bin.specs.Object.{object_head, names_of};
-ghost use Rattle.tool_bin.specs.Reading.{with_numbered, with_code, with_three, three_of, with_words, with_lines, object_of, symbol_names};
+ghost use Rattle.tool_bin.specs.ObjectReading.{with_numbered, with_read_code, with_three, three_of, with_words, with_read_lines, object_of, symbol_names};
 
-use crate::assembly::Assembly;
 use crate::instruction::read_instruction;
 use crate::object::{OBJECT_HEAD, Object, Symbol, write_object};
-use crate::rules::keeps_rules;
+use crate::object_builder::ObjectBuilder;
+use crate::object_rules::is_well_formed;
 use object_name::{Bytes, Many, read_number};
 use std::alloc::{AllocError, Global};
 use text_lines::{next_line, next_word};
@@ -22,15 +22,15 @@ fn with_numbered(
     alloc: Global,
     name: &[u8],
     number: Option<u64>,
-    assembly: Assembly,
-) -> Result<Assembly, AllocError>
-    ensures { IfOk result (λ made. made ≡ with_numbered name.now number assembly) }
+    builder: ObjectBuilder,
+) -> Result<ObjectBuilder, AllocError>
+    ensures { IfOk result (λ made. made ≡ with_numbered name.now number builder) }
 {
     let Some(number) = number else {
-        return Ok(assembly);
+        return Ok(builder);
     };
     let name = Bytes::from_slice(alloc, name)?;
-    assembly.with_debug(name, number)
+    builder.with_debug(name, number)
 }
 
 /// With what a line of three words says.
@@ -39,30 +39,34 @@ fn with_three(
     kind: &[u8],
     name: &[u8],
     number: &[u8],
-    assembly: Assembly,
-) -> Result<Assembly, AllocError>
-    ensures { IfOk result (λ made. made ≡ with_three kind.now name.now number.now assembly) }
+    builder: ObjectBuilder,
+) -> Result<ObjectBuilder, AllocError>
+    ensures { IfOk result (λ made. made ≡ with_three kind.now name.now number.now builder) }
 {
     if kind == b"sym".as_slice() {
-        return assembly.with_label(alloc, name);
+        return builder.with_label(alloc, name);
     }
     if kind == b"dbg".as_slice() {
-        return with_numbered(alloc, name, read_number(number), assembly);
+        return with_numbered(alloc, name, read_number(number), builder);
     }
-    Ok(assembly)
+    Ok(builder)
 }
 
 /// With the instruction of a line.
-fn with_code(alloc: Global, line: &[u8], assembly: Assembly) -> Result<Assembly, AllocError>
-    ensures { IfOk result (λ made. made ≡ with_code (instruction_of (words_of line.now)) assembly) }
+fn with_read_code(
+    alloc: Global,
+    line: &[u8],
+    builder: ObjectBuilder,
+) -> Result<ObjectBuilder, AllocError>
+    ensures { IfOk result (λ made. made ≡ with_read_code (instruction_of (words_of line.now)) builder) }
 {
     let Some(instruction) = read_instruction(alloc, line)? else {
-        return Ok(assembly);
+        return Ok(builder);
     };
-    assembly.with_instruction(instruction)
+    builder.with_instruction(instruction)
 }
 
-/// The words of a line of three words.
+/// The three words of a line that has three.
 fn three_words(line: &[u8]) -> Option<(&[u8], &[u8], &[u8])>
     ensures { MatchOption result (three_of (words_of line.now) ≡ None)
         (λ words. three_of (words_of line.now) ≡ Some (words.0.now, words.1.now, words.2.now)) }
@@ -77,30 +81,34 @@ fn three_words(line: &[u8]) -> Option<(&[u8], &[u8], &[u8])>
 }
 
 /// With what a line says.
-fn with_line(alloc: Global, line: &[u8], assembly: Assembly) -> Result<Assembly, AllocError>
-    ensures { IfOk result (λ made. made ≡ with_words (words_of line.now) assembly) }
+fn with_read_line(
+    alloc: Global,
+    line: &[u8],
+    builder: ObjectBuilder,
+) -> Result<ObjectBuilder, AllocError>
+    ensures { IfOk result (λ made. made ≡ with_words (words_of line.now) builder) }
 {
     match three_words(line) {
-        Some((kind, name, number)) => with_three(alloc, kind, name, number, assembly),
-        None => with_code(alloc, line, assembly),
+        Some((kind, name, number)) => with_three(alloc, kind, name, number, builder),
+        None => with_read_code(alloc, line, builder),
     }
 }
 
 /// With what the lines of a text say.
-fn with_lines(alloc: Global, text: &[u8]) -> Result<Assembly, AllocError>
-    ensures { IfOk result (λ made. made ≡ with_lines (lines_of text.now) no_assembly) }
+fn with_read_lines(alloc: Global, text: &[u8]) -> Result<ObjectBuilder, AllocError>
+    ensures { IfOk result (λ made. made ≡ with_read_lines (lines_of text.now) empty_builder) }
 {
-    let mut assembly = Assembly::new(alloc);
+    let mut builder = ObjectBuilder::new(alloc);
     let mut rest = text;
     'lines: while let Some((line, after)) = next_line(rest) {
-        assembly = with_line(alloc, line, assembly)?;
+        builder = with_read_line(alloc, line, builder)?;
         rest = after;
     }
-    Ok(assembly)
+    Ok(builder)
 }
 
-/// The object whose text with this first line the bytes are.
-#[tactic(auto, unfolding(crate::specs::Reading::object_of))]
+/// The object of a text with this first line, where the bytes are the text of one.
+#[tactic(auto, unfolding(crate::specs::ObjectReading::object_of))]
 pub(crate) fn read_with(
     alloc: Global,
     head: &[u8],
@@ -112,8 +120,8 @@ pub(crate) fn read_with(
     if !bytes.starts_with(head) {
         return Ok(None);
     }
-    let object = with_lines(alloc, bytes)?.into_object()?;
-    if !keeps_rules(alloc, &object)? {
+    let object = with_read_lines(alloc, bytes)?.into_object()?;
+    if !is_well_formed(alloc, &object)? {
         return Ok(None);
     }
     let text = write_object(alloc, head, &object)?;
@@ -123,7 +131,7 @@ pub(crate) fn read_with(
     Ok(Some(object))
 }
 
-/// The object whose text the bytes are.
+/// The object of a text, where the bytes are the text of one.
 pub fn read_object(alloc: Global, bytes: &[u8]) -> Result<Option<Object>, AllocError>
     ensures { IfOk result (λ object. object ≡ object_of object_head bytes.now) }
 {
@@ -141,8 +149,8 @@ fn names_of(alloc: Global, symbols: &[Symbol]) -> Result<Many<Bytes>, AllocError
     Ok(names)
 }
 
-/// The names that the object defines whose text the bytes are.
-#[tactic(auto, unfolding(crate::specs::Reading::symbol_names))]
+/// The names that an object defines, by its text.
+#[tactic(auto, unfolding(crate::specs::ObjectReading::symbol_names))]
 pub fn symbol_names(alloc: Global, bytes: &[u8]) -> Result<Option<Many<Bytes>>, AllocError>
     ensures { IfOk result (λ names. names ≡ symbol_names bytes.now) }
 {

@@ -1,4 +1,4 @@
-//! What the lines of an assembly say.
+//! The statements of the assembler's language.
 
 ghost use Rattle.std.specs.Prelude.{◌≡◌, IfOk};
 ghost use Rattle.text_lines.specs.Blanks.{words_of};
@@ -10,7 +10,7 @@ use std::alloc::{AllocError, Global};
 use text_lines::next_word;
 use thunk_codec::is_identifier;
 
-/// What a line says.
+/// A statement, which is a line.
 #[derive(Debug, Drop)]
 pub(crate) enum Statement {
     Label(Bytes),
@@ -18,7 +18,7 @@ pub(crate) enum Statement {
     Code(Instruction),
 }
 
-/// An identifier and a colon.
+/// A label of a word that is an identifier and a colon.
 fn labelled(alloc: Global, word: &[u8]) -> Result<Option<Statement>, AllocError>
     ensures { IfOk result (λ statement. statement ≡ labelled word.now) }
 {
@@ -32,7 +32,7 @@ fn labelled(alloc: Global, word: &[u8]) -> Result<Option<Statement>, AllocError>
     Ok(Some(Statement::Label(Bytes::from_slice(alloc, name)?)))
 }
 
-/// `NAME:`.
+/// A label, `NAME:`.
 fn label(alloc: Global, line: &[u8]) -> Result<Option<Statement>, AllocError>
     ensures { IfOk result (λ statement. statement ≡ label_of (words_of line.now)) }
 {
@@ -45,7 +45,7 @@ fn label(alloc: Global, line: &[u8]) -> Result<Option<Statement>, AllocError>
     labelled(alloc, word)
 }
 
-/// A number behind `.loc`.
+/// A location of these two words.
 fn located(word: &[u8], text: &[u8]) -> Option<Statement>
     ensures { result ≡ located word.now text.now }
 {
@@ -56,7 +56,7 @@ fn located(word: &[u8], text: &[u8]) -> Option<Statement>
     Some(Statement::Location(number))
 }
 
-/// `.loc N`.
+/// A location, `.loc N`.
 fn location(line: &[u8]) -> Option<Statement>
     ensures { result ≡ location_of (words_of line.now) }
 {
@@ -78,7 +78,7 @@ fn code(alloc: Global, line: &[u8]) -> Result<Option<Statement>, AllocError>
     Ok(Some(Statement::Code(instruction)))
 }
 
-/// What a line says.
+/// The statement of a line.
 pub(crate) fn read_statement(alloc: Global, line: &[u8]) -> Result<Option<Statement>, AllocError>
     ensures { IfOk result (λ statement. statement ≡ statement_of (words_of line.now)) }
 {

@@ -5,7 +5,7 @@ ghost use Rattle.tool_bin.specs.Strip.{without_debug, stripped_with, stripped, s
 
 use crate::object::{EXECUTABLE_HEAD, OBJECT_HEAD, Object, write_object};
 use crate::object_reading::read_with;
-use crate::source::{plain_source_of, text_outcome};
+use crate::one_output::{output_outcome, plain_source_of};
 use crate::status::{BAD_FORM, NOT_AN_OBJECT};
 use object_name::{Bytes, Many};
 use std::alloc::{AllocError, Global};
@@ -21,7 +21,7 @@ fn without_debug(alloc: Global, object: Object) -> Object
     }
 }
 
-/// The text of an object with this first line without its debug lines.
+/// The text of an object without its debug lines, where the source is the text of one with this first line.
 fn stripped_with(alloc: Global, head: &[u8], source: &[u8]) -> Result<Option<Bytes>, AllocError>
     ensures { IfOk result (λ text. text ≡ stripped_with head.now source.now) }
 {
@@ -50,5 +50,5 @@ pub fn strip(alloc: Global, job: &Job) -> Result<Outcome, AllocError>
         return Ok(Outcome::Failed(BAD_FORM));
     };
     let text = stripped(alloc, source)?;
-    text_outcome(alloc, NOT_AN_OBJECT, text)
+    output_outcome(alloc, NOT_AN_OBJECT, text)
 }

@@ -1,4 +1,4 @@
-use Rattle.tool_bin.proofs.MembersLoop.{going_more, going_shortens, going_fails, going_ends}
+use Rattle.tool_bin.proofs.MembersReadInTurn.{going_more, going_shortens, going_fails, going_ends}
 use Rattle.tool_bin.proofs.archive_reading.all_members.Goals as goal
 
 pub returns-in_default : goal.returns-in_default

@@ -1,5 +1,5 @@
 use Rattle.std.proofs.Common.{length}
-use Rattle.tool_bin.proofs.MembersLoop.{Going}
+use Rattle.tool_bin.proofs.MembersReadInTurn.{Going}
 use Rattle.tool_bin.proofs.archive_reading.all_members.Given as goal
 
 abbrev pub invariant-members : goal.invariant-members

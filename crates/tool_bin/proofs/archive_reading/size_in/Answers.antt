@@ -1,4 +1,4 @@
-use Rattle.tool_bin.proofs.HeaderFields.{prefix_digits}
+use Rattle.tool_bin.proofs.PrefixDigits.{prefix_digits}
 use Rattle.tool_bin.proofs.archive_reading.size_in.Goals as goal
 
 pub digits_value-requires-clause-digits : goal.digits_value-requires-clause-digits

@@ -1,4 +1,4 @@
-use Rattle.tool_bin.proofs.Sound.{assembled_reads}
+use Rattle.tool_bin.proofs.ReadIsRepresentable.{assembled_reads}
 use Rattle.tool_bin.proofs.laws.assembled_reads_back.Goals as goal
 
 pub returns : goal.returns

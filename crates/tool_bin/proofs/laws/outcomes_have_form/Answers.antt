@@ -1,4 +1,4 @@
-use Rattle.tool_bin.proofs.Fitting.{cc1_form, as_form, ld_form, ar_form, ranlib_form, strip_form}
+use Rattle.tool_bin.proofs.OutcomesHaveForm.{cc1_form, as_form, ld_form, ar_form, ranlib_form, strip_form}
 use Rattle.tool_bin.proofs.laws.outcomes_have_form.Goals as goal
 
 pub returns-clause-cc1 : goal.returns-clause-cc1

@@ -1,4 +1,4 @@
-use Rattle.tool_bin.proofs.Strips.{strips_once}
+use Rattle.tool_bin.proofs.StrippedOnce.{strips_once}
 use Rattle.tool_bin.proofs.laws.stripped_once.Goals as goal
 
 pub returns : goal.returns

@@ -3,7 +3,7 @@ use Rattle.tool_bin.specs.Link.{pass}
 use Rattle.tool_bin.proofs.ld_tool.pass.Given as goal
 
 abbrev pub invariant-objects : goal.invariant-objects
-invariant-objects l = pass l.linking l.rest ≡ pass l.fn.before l.objects
+invariant-objects l = pass l.program l.rest ≡ pass l.fn.before l.objects
 
 abbrev pub decreases-objects : goal.decreases-objects
 decreases-objects l = length l.rest

@@ -1,5 +1,5 @@
 use Rattle.std.proofs.Common.{sym}
-use Rattle.tool_bin.proofs.Texts.{not_headed}
+use Rattle.tool_bin.proofs.OneText.{not_headed}
 use Rattle.tool_bin.proofs.object_reading.read_with.Goals as goal
 
 pub returns-then-not-starts_with : goal.returns-then-not-starts_with

@@ -1,0 +1,45 @@
+-- The names of some texts, each of them once, are those texts.
+use Rattle.std.proofs.Common.{◌≡◌, ℕ, Bool, true, false, cond, List, [], ◌∷◌, ◌++◌, fold, bytes_eq, ◌||◌, refl, sym, ap, ◌∙◌}
+use Rattle.std.proofs.lemmas.Slice.Eq.{bytes_eq-Decides}
+use Rattle.std.specs.List.{list_all}
+use Rattle.tool_bin.specs.Names.{is_among, with_name}
+
+or_assoc : (a b c : Bool) → ((a || b) || c) ≡ (a || (b || c))
+or_assoc true b c = refl
+or_assoc false b c = refl
+
+or_false : (a : Bool) → (a || false) ≡ a
+or_false true = refl
+or_false false = refl
+
+or_both : (a b : Bool) → (b ≡ true → a ≡ true) → a ≡ (a || b)
+or_both true b from = refl
+or_both false true from = from refl
+or_both false false from = refl
+
+-- a name at the end
+is_among-end : (name : List ℕ) (names : List (List ℕ)) (last : List ℕ) → is_among name (names ++ last ∷ []) ≡ (is_among name names || bytes_eq name last)
+is_among-end name [] last = or_false (bytes_eq name last)
+is_among-end name (first ∷ names) last = ap (λ test. bytes_eq name first || test) (is_among-end name names last) ∙ sym (or_assoc (bytes_eq name first) (is_among name names) (bytes_eq name last))
+
+-- one name more
+is_among-with_name : (name : List ℕ) (names : List (List ℕ)) (new : List ℕ) → is_among name (with_name names new) ≡ (is_among name names || bytes_eq name new)
+is_among-with_name name names new = by (is_among new names) refl
+  where
+    by : (test : Bool) → is_among new names ≡ test → is_among name (cond test names (names ++ new ∷ [])) ≡ (is_among name names || bytes_eq name new)
+    by true among = or_both (is_among name names) (bytes_eq name new) (λ same. ap (λ n. is_among n names) ((bytes_eq-Decides name new).0 same) ∙ among)
+    by false other = is_among-end name names new
+
+among_more : (name : List ℕ) (texts names : List (List ℕ)) → is_among name (fold with_name names texts) ≡ (is_among name names || is_among name texts)
+among_more name [] names = sym (or_false (is_among name names))
+among_more name (text ∷ texts) names =
+    among_more name texts (with_name names text)
+    ∙ ap (λ test. test || is_among name texts) (is_among-with_name name names text)
+    ∙ or_assoc (is_among name names) (bytes_eq name text) (is_among name texts)
+
+pub is_among-names : (name : List ℕ) (texts : List (List ℕ)) → is_among name (fold with_name [] texts) ≡ is_among name texts
+is_among-names name texts = among_more name texts []
+
+-- inputs that are named by the texts are those that are named by their names
+pub named_by_names : (inputs : List (List ℕ × List ℕ)) (texts : List (List ℕ)) → list_all (λ input. is_among input.0 (fold with_name [] texts)) inputs ≡ list_all (λ input. is_among input.0 texts) inputs
+named_by_names inputs texts = λ i. list_all (λ input. is_among-names input.0 texts i) inputs
