@@ -2,6 +2,8 @@
 #![tactic(auto)]
 
 #[cfg(test)]
+mod archives;
+#[cfg(test)]
 mod fib_jobs;
 #[cfg(test)]
 mod include_lines;
