@@ -1,6 +1,6 @@
 -- Reading words, one after another.
-use Rattle.std.proofs.Common.{◌≡◌, ℕ, ◌+◌, ◌-◌, ◌<◌, ◌≤◌, List, [], ◌∷◌, ◌++◌, length, map, take, drop, get_or, true, false, Option, Some, None, Result, Ok, Err, IsErr, IsErrAnd, IsErrOf, refl, sym, ap, ◌∙◌, append_assoc, append-nil, arith}
-use Rattle.std.specs.Prelude.{IfOk, nat_eq, codes}
+use Rattle.std.proofs.Common.{◌≡◌, ℕ, ◌+◌, ◌-◌, ◌<◌, ◌≤◌, List, [], ◌∷◌, ◌++◌, length, map, take, drop, get_or, true, false, Option, Some, None, Result, Ok, Err, IsErr, IsErrAnd, refl, sym, ap, ◌∙◌, append_assoc, append-nil, arith}
+use Rattle.std.specs.Prelude.{nat_eq, codes}
 use Rattle.std.specs.List.{starts_with}
 use Rattle.std.proofs.lemmas.List.{drop_more, drop_all, take_rest}
 use Rattle.thunk_codec.specs.declared.reference.Ref.{Ref}
@@ -56,10 +56,6 @@ then_found items (Some others) = Some (items ++ others)
 abbrev pub ReadsItems : List (List ℕ) → List Item → List (List ℕ) → Type 0
 ReadsItems words items left = items_in words ≡ then_found items (items_in left)
 
-then_found_none : (found : Option (List Item)) → found ≡ then_found [] found
-then_found_none None = refl
-then_found_none (Some others) = refl
-
 then_found_more : (items : List Item) (item : Item) (found : Option (List Item)) → then_found items (found >>= λ others. Some (item ∷ others)) ≡ then_found (items ++ item ∷ []) found
 then_found_more items item None = refl
 then_found_more items item (Some others) = ap Some (sym (append_assoc items (item ∷ []) others))
@@ -77,10 +73,6 @@ next_refused word left items is = rw is refl
 nothing_left : (items : List Item) → then_found items (items_in []) ≡ Some items
 unfolding items_in
 nothing_left items = ap Some (append-nil items)
-
--- nothing is read yet
-pub ReadsItems-none : (words : List (List ℕ)) → ReadsItems words [] words
-ReadsItems-none words = then_found_none (items_in words)
 
 module _ {X : Type 0} (bytes : X → List ℕ) (words : List X) (index : ℕ) (items : List Item) (reads : ReadsItems (map bytes words) items (map bytes (drop index words))) where
   next_word : (word : X) → index < length words → word ≡ get_or words index word → map bytes (drop index words) ≡ bytes word ∷ map bytes (drop (index + 1) words)
@@ -105,14 +97,3 @@ module _ {X : Type 0} (bytes : X → List ℕ) (words : List X) (index : ℕ) (i
   -- all words are read
   pub ReadsItems-all : length words ≤ index → items_in (map bytes words) ≡ Some items
   ReadsItems-all le = reads ∙ ap (λ left. then_found items (items_in (map bytes left))) (drop_all index words le) ∙ nothing_left items
-
--- what was read is what is found
-pub Finds-found : {T : Type 0} (r : Result T WordFault) (wanted : Option T) → Finds r wanted → IfOk r (λ found. wanted ≡ Some found)
-Finds-found (Ok found) wanted h = h
-Finds-found (Err fault) wanted h = tt
-
--- where the words are refused, nothing is found
-pub Finds-usage : {T : Type 0} (r : Result T WordFault) (wanted : Option T) → Finds r wanted → IsErrOf r Usage → wanted ≡ None
-Finds-usage (Ok found) wanted h is = absurd (cc is)
-Finds-usage (Err Usage) wanted h is = h
-Finds-usage (Err Memory) wanted h is = absurd (cc is)
