@@ -1,7 +1,7 @@
 # What the benchmarks begin with; to be read in by `.`, with $here as the top of the repository. It sets gg, the program, which is built
 # where it is missing, and folder, a new folder on a memory file system that is removed at the end. python3 finds store.py.
 "$here/gg" >/dev/null 2>&1 || true
-gg=$here/crates/gg/out/gg
+gg=$here/.built/gg
 folder=$(mktemp -d "${BENCH_FOLDER:-/dev/shm}/gg-bench.XXXXXX")
 trap 'rm -rf "$folder"' EXIT
 export PYTHONPATH="$here/bench" PYTHONDONTWRITEBYTECODE=1
@@ -13,7 +13,7 @@ took() {
     echo $(($(date +%s%N) - from))
 }
 
-# A ratio with two digits behind the point.
+# A ratio with two digits after the point.
 ratio() {
     awk "BEGIN { printf \"%.2f\", $1 / $2 }"
 }

@@ -11,7 +11,7 @@ mkdir -p "$folder/.gg/objects"
 cd "$folder"
 . "$here/examples/store.sh"
 
-# A thunk's line of an argument or an output: its letter, and its text behind its length.
+# A thunk's line of an argument or an output: its letter, and its text after its length.
 counted() {
     printf '%s %s:%s\n' "$1" "${#2}" "$2"
 }
