@@ -14,8 +14,6 @@ mod read_source;
 mod sink;
 mod source;
 mod spelling;
-#[cfg(test)]
-mod tests;
 mod trouble;
 mod try_again;
 mod try_copy;

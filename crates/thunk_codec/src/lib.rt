@@ -37,10 +37,3 @@ pub use reference::Ref;
 pub use resolving::resolve;
 pub use rules::{is_among, is_identifier, is_letter, is_letter_or_digit};
 pub use thunk::Thunk;
-
-#[cfg(test)]
-mod folder_tests;
-#[cfg(test)]
-mod making_tests;
-#[cfg(test)]
-mod tests;
