@@ -1,5 +1,5 @@
 use Rattle.std.proofs.Common.{◌+◌, ◌*◌}
-use Rattle.need_eval.proofs.plain.Plain.+plain.Given as goal
+use Rattle.eval_tests.proofs.plain.Plain.+plain.Given as goal
 
 abbrev pub decreases-output : goal.decreases-output
 decreases-output l = 3 * l.left

@@ -1,4 +1,4 @@
-//! A function of jobs for tests, of which nothing is told.
+//! A function of jobs of which nothing is told.
 
 ghost use Rattle.std.specs.Prelude.{◌≡◌, ◌≤◌, IsTrue, IfOk, length, sum_by};
 ghost use Rattle.std.proofs.Common.{lit≤};
@@ -10,7 +10,7 @@ use std::alloc::{AllocError, Global};
 use thunk_codec::{Function, Job, Outcome, Path, Runner};
 
 /// The status of a job with an argument.
-const WITH_ARGUMENT: u8 = 9;
+pub const WITH_ARGUMENT: u8 = 9;
 
 /// The status of a job whose outputs together would be too long.
 const TOO_LONG: u8 = 201;
@@ -36,7 +36,7 @@ impl Runner for Joins {
             return Ok(Outcome::Failed(WITH_ARGUMENT));
         }
         let joined = join(alloc, job)?;
-        let outputs = lengthened(alloc, &joined, job.outputs.as_slice())?;
+        let outputs = lengthened(alloc, joined, job.outputs.as_slice())?;
         if !fit_together(outputs.as_slice()) {
             return Ok(Outcome::Failed(TOO_LONG));
         }
@@ -54,10 +54,10 @@ fn join(alloc: Global, job: &Job) -> Result<Bytes, AllocError> {
 }
 
 /// As many texts as there are outputs, the first this one and each later one longer by a `+`.
-fn lengthened(alloc: Global, first: &Bytes, outputs: &[Path]) -> Result<Many<Bytes>, AllocError>
+fn lengthened(alloc: Global, first: Bytes, outputs: &[Path]) -> Result<Many<Bytes>, AllocError>
     ensures { IfOk result (λ texts. length texts ≡ length outputs.now) }
 {
-    let mut text = Bytes::from_slice(alloc, first.as_slice())?;
+    let mut text = first;
     let mut texts = Many::new(alloc);
     'outputs: for _ in outputs {
         texts.push(Bytes::from_slice(alloc, text.as_slice())?)?;

@@ -1,8 +1,10 @@
 //! Small stores with thunks, made from a number.
 
+use crate::content::{Content, put};
+use crate::plain::note_text;
 use crate::texts::thunk_text;
-use object_name::{Bytes, Kind, Many, Name, TryCopy, name_of};
-use reduction_cache::{encode_note, read_note};
+use object_name::{Bytes, Many, Name, TryCopy, name_of};
+use reduction_cache::read_note;
 use std::alloc::Global;
 use std::test::Fail;
 use thunk_codec::Ref;
@@ -30,13 +32,11 @@ impl Dice {
         let high = u32::try_from(self.0 >> 33).unwrap_or(0);
         high.checked_rem(sides).unwrap_or(0)
     }
-}
 
-/// What a keeper holds.
-#[derive(Drop)]
-pub struct Content {
-    pub objects: Many<(Name, Bytes)>,
-    pub notes: Many<(Name, Bytes)>,
+    /// An index below a length.
+    fn index(&mut self, len: usize) -> usize {
+        self.roll(u32::try_from(len).unwrap_or(0)) as usize
+    }
 }
 
 /// A store that grows, and the thunks in it, with their texts whether or not they are held.
@@ -44,8 +44,8 @@ pub struct Content {
 pub struct Scene {
     alloc: Global,
     dice: Dice,
-    objects: Many<(Name, Bytes)>,
-    thunks: Many<(Name, Bytes)>,
+    pub objects: Vec<(Name, Bytes)>,
+    thunks: Vec<(Name, Bytes)>,
 }
 
 impl Scene {
@@ -54,8 +54,8 @@ impl Scene {
         let mut scene = Scene {
             alloc,
             dice: Dice(seed),
-            objects: Many::new(alloc),
-            thunks: Many::new(alloc),
+            objects: Vec::new(alloc),
+            thunks: Vec::new(alloc),
         };
         for text in VALUES {
             scene.keep(text)?;
@@ -66,36 +66,26 @@ impl Scene {
         Ok(scene)
     }
 
-    /// The names of its thunks, in the order in which they were added.
-    pub fn names(&self, alloc: Global) -> Result<Many<Name>, Fail> {
-        let mut names = Many::new(alloc);
-        for (name, _) in self.thunks.as_slice() {
+    /// The names of its thunks, those first that the later ones refer to.
+    pub fn names(&self) -> Result<Many<Name>, Fail> {
+        let mut names = Many::new(self.alloc);
+        for (name, _) in &self.thunks {
             names.push(*name)?;
         }
         Ok(names)
     }
 
-    /// What it holds, without a note.
-    pub fn into_content(self) -> Content {
-        let Scene { alloc, objects, .. } = self;
-        let notes = Many::new(alloc);
-        Content { objects, notes }
-    }
-
-    fn put(&mut self, name: Name, bytes: &[u8]) -> Result<(), Fail> {
-        let copy = Bytes::from_slice(self.alloc, bytes)?;
-        self.objects.push((name, copy))?;
-        Ok(())
-    }
-
     /// Adds an object: mostly it is held, but now and then it is absent, or other bytes stand under its name.
     fn keep(&mut self, bytes: &[u8]) -> Result<(), Fail> {
         let name = name_of(bytes)?;
-        match self.dice.roll(90) {
-            0 => Ok(()),
-            1 => self.put(name, b"?"),
-            _ => self.put(name, bytes),
-        }
+        let under = match self.dice.roll(90) {
+            0 => return Ok(()),
+            1 => b"?".as_slice(),
+            _ => bytes,
+        };
+        let copy = Bytes::from_slice(self.alloc, under)?;
+        put(&mut self.objects, name, copy)?;
+        Ok(())
     }
 
     fn add_thunk(&mut self) -> Result<(), Fail> {
@@ -110,71 +100,54 @@ impl Scene {
 
     /// The text of one more thunk: every third answers with the text of an earlier one, where there is one.
     fn text(&mut self) -> Result<Bytes, Fail> {
-        if self.dice.roll(3) == 0 {
-            return match self.earlier()? {
-                Some(text) => self.giving(text.as_slice()),
-                None => self.joining(),
-            };
+        let number = self.thunks.len();
+        let index = self.dice.index(number.saturating_mul(3));
+        match self.text_at(index)? {
+            Some(text) => self.giving(text.as_slice()),
+            None => self.joining(),
         }
-        self.joining()
     }
 
-    /// A place below the number of sides.
-    fn place(&mut self, sides: usize) -> usize {
-        let sides = u32::try_from(sides).unwrap_or(0);
-        self.dice.roll(sides) as usize
-    }
-
-    /// The text of a thunk that was added before.
-    fn earlier(&mut self) -> Result<Option<Bytes>, Fail> {
-        let place = self.place(self.count());
-        self.text_at(place)
-    }
-
-    /// How many thunks there are so far.
-    fn count(&self) -> usize {
-        self.thunks.len()
-    }
-
-    fn text_at(&self, place: usize) -> Result<Option<Bytes>, Fail> {
-        match self.thunks.as_slice().get(place) {
+    fn text_at(&self, index: usize) -> Result<Option<Bytes>, Fail> {
+        match self.thunks.get(index) {
             Some((_, text)) => Ok(Some(text.copy(self.alloc)?)),
             None => Ok(None),
         }
     }
 
-    fn name_at(&self, place: usize) -> Option<Name> {
-        match self.thunks.as_slice().get(place) {
-            Some((name, _)) => Some(*name),
-            None => None,
-        }
-    }
-
     /// A thunk that answers with this text, whose two halves are its inputs.
     fn giving(&mut self, text: &[u8]) -> Result<Bytes, Fail> {
-        let cut = CUT.min(text.len());
-        let (prefix, back) = text.split_at(cut);
+        let (prefix, rest) = text.split_at(CUT.min(text.len()));
         self.keep(prefix)?;
-        self.keep(back)?;
+        self.keep(rest)?;
         let function = Ref::Value(name_of(VALUES[0])?);
-        let inputs = [Ref::Value(name_of(prefix)?), Ref::Value(name_of(back)?)];
+        let inputs = [Ref::Value(name_of(prefix)?), Ref::Value(name_of(rest)?)];
         let outputs = self.outputs();
-        Ok(thunk_text(self.alloc, &function, false, &inputs, outputs)?)
+        Ok(thunk_text(self.alloc, function, b"", &inputs, outputs)?)
     }
 
     /// A thunk that joins what its references name, or fails.
     fn joining(&mut self) -> Result<Bytes, Fail> {
         let function = self.reference()?;
-        let fails = self.dice.roll(30) == 0;
         let inputs = self.references()?;
+        let args = self.args();
         let outputs = self.outputs();
-        Ok(thunk_text(self.alloc, &function, fails, inputs.as_slice(), outputs)?)
+        Ok(thunk_text(self.alloc, function, args, inputs.as_slice(), outputs)?)
     }
 
+    /// The lines of a thunk's arguments: with one its function fails.
+    fn args(&mut self) -> &'static [u8] {
+        match self.dice.roll(30) {
+            0 => b"a 4:fail\n",
+            _ => b"",
+        }
+    }
+
+    /// The lines of a thunk's outputs.
     fn outputs(&mut self) -> &'static [u8] {
         match self.dice.roll(3) {
-            0 => b"xy".as_slice(),
-            _ => b"x".as_slice(),
+            0 => b"o 1:x\no 1:y\n",
+            _ => b"o 1:x\n",
         }
     }
 
@@ -188,43 +161,36 @@ impl Scene {
 
     /// A value, or an output of a thunk that was added before, which may not be there.
     fn reference(&mut self) -> Result<Ref, Fail> {
-        let place = self.place(self.count().saturating_add(3));
+        let number = self.thunks.len();
+        let place = self.dice.index(number.saturating_add(3));
         let index = self.dice.roll(20).saturating_sub(17);
-        match self.name_at(place) {
-            Some(name) => Ok(Ref::Out(name, index)),
+        match self.thunks.get(place) {
+            Some((name, _)) => Ok(Ref::Out(*name, index)),
             None => self.value(),
         }
     }
 
     fn value(&mut self) -> Result<Ref, Fail> {
-        let place = self.place(VALUES.len());
+        let place = self.dice.index(VALUES.len());
         let text = VALUES.get(place).ok_or("a value")?;
         Ok(Ref::Value(name_of(text)?))
     }
 }
 
-impl Content {
-    pub fn copy(&self, alloc: Global) -> Result<Content, Fail> {
-        let objects = self.objects.copy(alloc)?;
-        let notes = self.notes.copy(alloc)?;
-        Ok(Content { objects, notes })
-    }
-
-    /// The same with some objects taken away or damaged, and some notes replaced by those of other thunks.
-    pub fn spoiled(self, alloc: Global, seed: u64) -> Result<Content, Fail> {
-        let mut dice = Dice(seed);
-        let objects = spoiled_objects(alloc, &mut dice, self.objects.as_slice())?;
-        let notes = spoiled_notes(alloc, &mut dice, self.notes.as_slice())?;
-        Ok(Content { objects, notes })
-    }
+/// A content with some objects taken away or damaged, and some notes replaced by those of other thunks.
+pub fn spoiled(alloc: Global, content: &Content, seed: u64) -> Result<Content, Fail> {
+    let mut dice = Dice(seed);
+    let objects = spoiled_objects(alloc, &mut dice, content.objects.as_slice())?;
+    let notes = spoiled_notes(alloc, &mut dice, content.notes.as_slice())?;
+    Ok(Content { objects, notes })
 }
 
 fn spoiled_objects(
     alloc: Global,
     dice: &mut Dice,
     objects: &[(Name, Bytes)],
-) -> Result<Many<(Name, Bytes)>, Fail> {
-    let mut left = Many::new(alloc);
+) -> Result<Vec<(Name, Bytes)>, Fail> {
+    let mut left = Vec::new(alloc);
     for (name, bytes) in objects {
         let under = match dice.roll(40) {
             0 => continue,
@@ -240,17 +206,15 @@ fn spoiled_notes(
     alloc: Global,
     dice: &mut Dice,
     notes: &[(Name, Bytes)],
-) -> Result<Many<(Name, Bytes)>, Fail> {
-    let mut left = Many::new(alloc);
+) -> Result<Vec<(Name, Bytes)>, Fail> {
+    let mut left = Vec::new(alloc);
     for (name, text) in notes {
-        let place = dice.roll(u32::try_from(notes.len()).unwrap_or(0)) as usize;
-        let other = match notes.get(place) {
-            Some((_, other)) => other.as_slice(),
-            None => continue,
+        let Some((_, other)) = notes.get(dice.index(notes.len())) else {
+            continue;
         };
         let note = match dice.roll(6) {
-            0 => Bytes::from_slice(alloc, other)?,
-            1 => false_note(alloc, name, other)?,
+            0 => other.copy(alloc)?,
+            1 => false_note(alloc, *name, other.as_slice())?,
             _ => text.copy(alloc)?,
         };
         left.push((*name, note))?;
@@ -259,16 +223,10 @@ fn spoiled_notes(
 }
 
 /// The note that a thunk has the outputs that another has by its note.
-fn false_note(alloc: Global, name: &Name, other: &[u8]) -> Result<Bytes, Fail> {
+fn false_note(alloc: Global, name: Name, other: &[u8]) -> Result<Bytes, Fail> {
     let (_, outputs) = read_note(alloc, other)?.ok_or("a note")?;
-    let Kind::Thunk = name.kind() else {
-        return Ok(Bytes::from_slice(alloc, other)?);
-    };
-    if outputs.is_empty() {
-        return Ok(Bytes::from_slice(alloc, other)?);
+    match note_text(alloc, name, outputs.as_slice())? {
+        Some(note) => Ok(note),
+        None => Ok(Bytes::from_slice(alloc, other)?),
     }
-    if outputs.len() > 64 {
-        return Ok(Bytes::from_slice(alloc, other)?);
-    }
-    Ok(encode_note(alloc, name, outputs.as_slice())?)
 }

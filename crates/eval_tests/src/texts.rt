@@ -1,4 +1,4 @@
-//! Texts of thunks, whatever rules they break.
+//! Texts of thunks, whatever rules they break, and references to their outputs.
 
 ghost use Rattle.std.specs.Prelude.{IfOk, IfSome};
 ghost use Rattle.std.specs.List.{AllByRecursion};
@@ -21,42 +21,31 @@ fn append_inputs(text: &mut Bytes, inputs: &[Ref]) -> Result<(), AllocError> {
     Ok(())
 }
 
-/// Appends the lines of some outputs, each a letter.
-fn append_outputs(text: &mut Bytes, outputs: &[u8]) -> Result<(), AllocError> {
-    for letter in outputs {
-        text.append(b"o 1:")?;
-        text.append(&[*letter, b'\n'])?;
-    }
-    Ok(())
-}
-
-/// The text of a thunk with an argument or none, inputs at `a`, `b`, .., and an output for each letter.
+/// The text of a thunk with these inputs at `a`, `b`, ..; the lines of its arguments and outputs are given.
 pub fn thunk_text(
     alloc: Global,
-    function: &Ref,
-    fails: bool,
+    function: Ref,
+    args: &[u8],
     inputs: &[Ref],
     outputs: &[u8],
 ) -> Result<Bytes, AllocError> {
     let mut text = Bytes::from_slice(alloc, b"gg-thunk 1\nf ")?;
     function.write(&mut text)?;
     text.append(b"\n")?;
-    if fails {
-        text.append(b"a 4:fail\n")?;
-    }
+    text.append(args)?;
     append_inputs(&mut text, inputs)?;
-    append_outputs(&mut text, outputs)?;
+    text.append(outputs)?;
     text.append(b"end\n")?;
     Ok(text)
 }
 
-/// An output of a thunk of this name, where it is the name of one.
-fn out_ref(name: &Name, index: u32) -> Option<Ref>
+/// The first output of the thunk of this name, where it is the name of one.
+fn first_output(name: Name) -> Option<Ref>
     ensures { IfSome result (λ reference. IsRef reference) }
 {
     name.spell(&mut [0; 52]);
     match name.kind() {
-        Kind::Thunk => Some(Ref::Out(*name, index)),
+        Kind::Thunk => Some(Ref::Out(name, 0)),
         Kind::Value => None,
     }
 }
@@ -67,7 +56,7 @@ pub fn first_outputs(alloc: Global, names: &[Name]) -> Result<Many<Ref>, AllocFa
 {
     let mut refs = Many::new(alloc);
     'names: for name in names {
-        if let Some(reference) = out_ref(name, 0) {
+        if let Some(reference) = first_output(*name) {
             refs.push(reference)?;
         }
     }

@@ -1,0 +1,175 @@
+//! The evaluation beside the plain program, over a family of small stores.
+
+use crate::content::{Content, copied};
+use crate::joining::Joins;
+use crate::plain::Plain;
+use crate::scenes::{Scene, spoiled};
+use crate::texts::first_outputs;
+use blob_store::MemKeeper;
+use need_eval::{EvalFault, Refusal, Values, evaluate};
+use object_name::{Many, Name};
+use std::alloc::Global;
+use std::test::Fail;
+
+/// How many stores there are.
+const STORES: u64 = 60;
+
+/// The budgets that each store is tried with: all below this one, and one that is never spent.
+const BUDGETS: u32 = 9;
+
+/// A budget that is never spent.
+const AMPLE: u32 = 1000;
+
+/// All kinds of answers but those that the family can't show.
+const ALL_KINDS: u32 = 63;
+
+/// What an evaluation answered and wrote, and what is kept then.
+#[derive(Drop)]
+struct Seen {
+    answer: Result<Values, EvalFault>,
+    puts: Vec<Name>,
+    content: Content,
+}
+
+/// The kind of an answer, as a power of two.
+fn kind_of(answer: &Result<Values, EvalFault>) -> u32 {
+    match answer {
+        Ok(_) => 1,
+        Err(EvalFault::Refused(Refusal::Missing(_))) => 2,
+        Err(EvalFault::Refused(Refusal::BadThunk(_))) => 4,
+        Err(EvalFault::Refused(Refusal::NoOutput { .. })) => 8,
+        Err(EvalFault::Refused(Refusal::Spent { .. })) => 16,
+        Err(EvalFault::Refused(Refusal::FunctionFailed { .. })) => 32,
+        Err(_) => 64,
+    }
+}
+
+/// What `evaluate` does with the first outputs of some thunks.
+fn walked(alloc: Global, content: &Content, names: &[Name], budget: u32) -> Result<Seen, Fail> {
+    let objects = Many(copied(alloc, content.objects.as_slice())?);
+    let notes = Many(copied(alloc, content.notes.as_slice())?);
+    let mut keeper = MemKeeper::new(alloc, objects, notes, Many::new(alloc))?;
+    let refs = first_outputs(alloc, names)?;
+    let answer = evaluate(alloc, &mut keeper, refs, budget, 0, &mut Joins);
+    observed(alloc, answer, keeper)
+}
+
+/// What a keeper shows after an evaluation.
+fn observed(
+    alloc: Global,
+    answer: Result<Values, EvalFault>,
+    keeper: MemKeeper,
+) -> Result<Seen, Fail> {
+    let puts = keeper.puts().to_vec(alloc)?;
+    let (objects, notes) = keeper.into_content();
+    let content = Content {
+        objects: objects.0,
+        notes: notes.0,
+    };
+    Ok(Seen {
+        answer,
+        puts,
+        content,
+    })
+}
+
+/// What the plain program does with them.
+fn plainly(alloc: Global, content: &Content, names: &[Name], budget: u32) -> Result<Seen, Fail> {
+    let mut plain = Plain {
+        alloc,
+        content: Content {
+            objects: copied(alloc, content.objects.as_slice())?,
+            notes: copied(alloc, content.notes.as_slice())?,
+        },
+        puts: Vec::new(alloc),
+        reduced: Vec::new(alloc),
+        steps: 0,
+        budget,
+    };
+    let refs = first_outputs(alloc, names)?;
+    let found = plain.values(refs.as_slice(), budget);
+    let Plain {
+        content,
+        puts,
+        steps,
+        ..
+    } = plain;
+    let answer = match found {
+        Ok(names) => Ok(Values { names, steps }),
+        Err(fault) => Err(fault),
+    };
+    Ok(Seen {
+        answer,
+        puts,
+        content,
+    })
+}
+
+/// Whether two answers are the same values after the same steps, or the same refusal.
+fn is_same(one: &Result<Values, EvalFault>, other: &Result<Values, EvalFault>) -> bool {
+    match (one, other) {
+        (Ok(one), Ok(other)) => one.steps == other.steps && one.names == other.names,
+        (Err(EvalFault::Refused(one)), Err(EvalFault::Refused(other))) => *one == *other,
+        _ => false,
+    }
+}
+
+/// Whether two evaluations answered the same, wrote the same in one order, and left the same.
+fn agree(one: &Seen, other: &Seen) -> bool {
+    is_same(&one.answer, &other.answer)
+        && one.puts == other.puts
+        && one.content.objects == other.content.objects
+        && one.content.notes == other.content.notes
+}
+
+/// Evaluates both ways over a content, and answers what both show. The kind of the answer is added.
+fn compared(
+    alloc: Global,
+    kinds: &mut u32,
+    content: &Content,
+    names: &[Name],
+    budget: u32,
+) -> Result<Content, Fail> {
+    let ours = walked(alloc, content, names, budget)?;
+    let plain = plainly(alloc, content, names, budget)?;
+    *kinds |= kind_of(&plain.answer);
+    if !agree(&ours, &plain) {
+        return Err(Fail::from("the two differ"));
+    }
+    Ok(plain.content)
+}
+
+/// Compares over the store of a number, whose thunks are wanted, and over what is left of it, spoiled.
+fn compare_store(alloc: Global, kinds: &mut u32, seed: u64, budget: u32) -> Result<(), Fail> {
+    let scene = Scene::new(alloc, seed)?;
+    let mut names = scene.names()?;
+    if seed & 1 == 1 {
+        names.0.reverse();
+    }
+    let content = Content {
+        objects: copied(alloc, scene.objects.as_slice())?,
+        notes: Vec::new(alloc),
+    };
+    let after = compared(alloc, kinds, &content, names.as_slice(), budget)?;
+    let again = spoiled(alloc, &after, seed.wrapping_add(u64::from(budget)))?;
+    let _ = compared(alloc, kinds, &again, names.as_slice(), budget)?;
+    Ok(())
+}
+
+/// Compares with each budget.
+fn compare_budgets(alloc: Global, kinds: &mut u32, seed: u64) -> Result<(), Fail> {
+    for budget in 0..BUDGETS {
+        compare_store(alloc, kinds, seed, budget)?;
+    }
+    compare_store(alloc, kinds, seed, AMPLE)
+}
+
+#[test]
+fn the_walker_does_what_the_plain_program_does(rt: HostRuntime) -> Result<(), Fail> {
+    let mut kinds = 0;
+    for seed in 0..STORES {
+        compare_budgets(rt.alloc(), &mut kinds, seed)?;
+    }
+    assert_eq!(rt; kinds, ALL_KINDS);
+    Ok(())
+}

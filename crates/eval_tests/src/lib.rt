@@ -1,0 +1,17 @@
+//! Tests of evaluation: a walker beside a plain program that calls itself, and the calls of a walker one by one.
+#![tactic(auto)]
+
+#[cfg(test)]
+mod compared;
+#[cfg(test)]
+mod content;
+#[cfg(test)]
+mod joining;
+#[cfg(test)]
+mod plain;
+#[cfg(test)]
+mod scenes;
+#[cfg(test)]
+mod texts;
+#[cfg(test)]
+mod walking;
