@@ -1,21 +1,25 @@
 //! The evaluation beside the plain program, over a family of small stores.
 
+ghost use Rattle.std.specs.List.{AllByRecursion};
+ghost use Rattle.thunk_codec.specs.Reference.{IsRef};
+
 use crate::content::{Content, copied};
 use crate::joining::Joins;
 use crate::plain::Plain;
-use crate::scenes::{Scene, spoiled};
+use crate::scenes::{Dice, Scene, spoiled_notes, spoiled_objects};
 use crate::texts::first_outputs;
 use blob_store::MemKeeper;
 use need_eval::{EvalFault, Refusal, Values, evaluate};
-use object_name::{Many, Name};
+use object_name::{Bytes, Many, Name};
 use std::alloc::Global;
 use std::test::Fail;
+use thunk_codec::Ref;
 
 /// How many stores there are.
-const STORES: u64 = 60;
+const STORES: u64 = 24;
 
 /// The budgets that each store is tried with: all below this one, and one that is never spent.
-const BUDGETS: u32 = 9;
+const BUDGETS: u32 = 7;
 
 /// A budget that is never spent.
 const AMPLE: u32 = 1000;
@@ -44,13 +48,25 @@ fn kind_of(answer: &Result<Values, EvalFault>) -> u32 {
     }
 }
 
+/// What `evaluate` answers. Its contract ends here.
+fn evaluated(
+    alloc: Global,
+    keeper: &mut MemKeeper,
+    refs: Many<Ref>,
+    budget: u32,
+) -> Result<Values, EvalFault>
+    requires { AllByRecursion IsRef refs }
+{
+    evaluate(alloc, keeper, refs, budget, 0, &mut Joins)
+}
+
 /// What `evaluate` does with the first outputs of some thunks.
 fn walked(alloc: Global, content: &Content, names: &[Name], budget: u32) -> Result<Seen, Fail> {
     let objects = Many(copied(alloc, content.objects.as_slice())?);
     let notes = Many(copied(alloc, content.notes.as_slice())?);
     let mut keeper = MemKeeper::new(alloc, objects, notes, Many::new(alloc))?;
     let refs = first_outputs(alloc, names)?;
-    let answer = evaluate(alloc, &mut keeper, refs, budget, 0, &mut Joins);
+    let answer = evaluated(alloc, &mut keeper, refs, budget);
     observed(alloc, answer, keeper)
 }
 
@@ -139,20 +155,36 @@ fn compared(
     Ok(plain.content)
 }
 
+/// A content with some objects taken away or damaged, and some notes replaced.
+fn spoiled(
+    alloc: Global,
+    objects: &[(Name, Bytes)],
+    notes: &[(Name, Bytes)],
+    seed: u64,
+) -> Result<Content, Fail> {
+    let mut dice = Dice(seed);
+    let objects = spoiled_objects(alloc, &mut dice, objects)?;
+    let notes = spoiled_notes(alloc, &mut dice, notes)?;
+    Ok(Content { objects, notes })
+}
+
 /// Compares over the store of a number, whose thunks are wanted, and over what is left of it, spoiled.
 fn compare_store(alloc: Global, kinds: &mut u32, seed: u64, budget: u32) -> Result<(), Fail> {
-    let scene = Scene::new(alloc, seed)?;
-    let mut names = scene.names()?;
+    let mut scene = Scene::new(alloc, seed)?;
     if seed & 1 == 1 {
-        names.0.reverse();
+        scene.names.reverse();
     }
-    let content = Content {
-        objects: copied(alloc, scene.objects.as_slice())?,
-        notes: Vec::new(alloc),
-    };
-    let after = compared(alloc, kinds, &content, names.as_slice(), budget)?;
-    let again = spoiled(alloc, &after, seed.wrapping_add(u64::from(budget)))?;
-    let _ = compared(alloc, kinds, &again, names.as_slice(), budget)?;
+    let names = scene.names.as_slice();
+    let content = spoiled(alloc, scene.objects.as_slice(), &[], seed)?;
+    let after = compared(alloc, kinds, &content, names, budget)?;
+    let seed = seed.wrapping_add(u64::from(budget));
+    let again = spoiled(
+        alloc,
+        after.objects.as_slice(),
+        after.notes.as_slice(),
+        seed,
+    )?;
+    let _ = compared(alloc, kinds, &again, names, budget)?;
     Ok(())
 }
 

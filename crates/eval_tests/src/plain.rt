@@ -6,16 +6,13 @@ ghost use Rattle.thunk_codec.specs.Resolved.{HaveValueKind};
 use crate::content::{Content, found, held, put};
 use crate::joining::WITH_ARGUMENT;
 use need_eval::{EvalFault, Refusal};
-use object_name::{Bytes, Kind, Many, Name, TryCopy, name_of};
+use object_name::{Bytes, Kind, MAX_OUTPUTS, Many, Name, TryCopy, name_of};
 use reduction_cache::{encode_note, read_note};
 use std::alloc::Global;
 use thunk_codec::{DecodeFault, Ref, Thunk, decode, encode, resolve};
 
 /// The greatest length of a job's encoding, in bytes.
 const MAX_JOB: u64 = 67_108_864;
-
-/// The most outputs of a thunk.
-const MOST_OUTPUTS: usize = 64;
 
 /// An evaluation in which each job is joined as `Joins` does it. Whatever isn't a refusal counts as out of memory.
 #[derive(Drop)]
@@ -47,7 +44,10 @@ impl Plain {
     #[cycle(plain)]
     fn value(&mut self, reference: &Ref, left: u32) -> Result<Name, EvalFault> {
         let (thunk, index) = match reference {
-            Ref::Value(name) => return self.held_value(*name),
+            Ref::Value(name) => {
+                self.object(*name)?;
+                return Ok(*name);
+            }
             Ref::Out(name, index) => (*name, *index),
         };
         let output = self.output(thunk, index, left)?;
@@ -102,11 +102,6 @@ impl Plain {
             Some(bytes) => Ok(bytes.copy(self.alloc)?),
             None => Err(EvalFault::Refused(Refusal::Missing(name))),
         }
-    }
-
-    fn held_value(&self, name: Name) -> Result<Name, EvalFault> {
-        let _ = self.object(name)?;
-        Ok(name)
     }
 
     /// The thunk of this name, which has this output.
@@ -288,7 +283,7 @@ pub fn note_text(alloc: Global, name: Name, outputs: &[Name]) -> Result<Option<B
     if outputs.is_empty() {
         return Ok(None);
     }
-    if outputs.len() > MOST_OUTPUTS {
+    if outputs.len() > MAX_OUTPUTS {
         return Ok(None);
     }
     Ok(Some(encode_note(alloc, &name, outputs)?))

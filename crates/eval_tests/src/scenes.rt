@@ -1,6 +1,6 @@
 //! Small stores with thunks, made from a number.
 
-use crate::content::{Content, put};
+use crate::content::put;
 use crate::plain::note_text;
 use crate::texts::thunk_text;
 use object_name::{Bytes, Many, Name, TryCopy, name_of};
@@ -11,6 +11,9 @@ use thunk_codec::Ref;
 
 /// The values that a thunk's references may name. The first is the function of the thunks that answer with a thunk.
 const VALUES: [&[u8]; 6] = [b"", b"a", b"bc", b"def", b"-", b"gg"];
+
+/// The lines of outputs that a thunk may have.
+const OUTPUTS: [&[u8]; 3] = [b"o 1:x\no 1:y\n", b"o 1:x\n", b"o 1:x\n"];
 
 /// Where the text of a thunk is cut into two values. The whole mark of a thunk's text would make the prefix one a thunk.
 const CUT: usize = 5;
@@ -24,28 +27,33 @@ pub struct Dice(pub u64);
 
 impl Dice {
     /// A number below the number of sides.
-    pub fn roll(&mut self, sides: u32) -> u32 {
+    pub fn roll(&mut self, sides: usize) -> usize {
         self.0 = self
             .0
             .wrapping_mul(6_364_136_223_846_793_005)
             .wrapping_add(1_442_695_040_888_963_407);
-        let high = u32::try_from(self.0 >> 33).unwrap_or(0);
+        let high = usize::try_from(self.0 >> 33).unwrap_or(0);
         high.checked_rem(sides).unwrap_or(0)
     }
 
-    /// An index below a length.
-    fn index(&mut self, len: usize) -> usize {
-        self.roll(u32::try_from(len).unwrap_or(0)) as usize
+    /// One of some texts.
+    fn pick(&mut self, texts: &[&'static [u8]]) -> &'static [u8] {
+        match texts.get(self.roll(texts.len())) {
+            Some(text) => text,
+            None => b"",
+        }
     }
 }
 
-/// A store that grows, and the thunks in it, with their texts whether or not they are held.
+/// A store that grows, and the texts of the thunks in it.
 #[derive(Drop)]
 pub struct Scene {
     alloc: Global,
     dice: Dice,
     pub objects: Vec<(Name, Bytes)>,
-    thunks: Vec<(Name, Bytes)>,
+    texts: Vec<Bytes>,
+    /// The names of the thunks, those first that the later ones refer to.
+    pub names: Vec<Name>,
 }
 
 impl Scene {
@@ -55,7 +63,8 @@ impl Scene {
             alloc,
             dice: Dice(seed),
             objects: Vec::new(alloc),
-            thunks: Vec::new(alloc),
+            texts: Vec::new(alloc),
+            names: Vec::new(alloc),
         };
         for text in VALUES {
             scene.keep(text)?;
@@ -66,133 +75,80 @@ impl Scene {
         Ok(scene)
     }
 
-    /// The names of its thunks, those first that the later ones refer to.
-    pub fn names(&self) -> Result<Many<Name>, Fail> {
-        let mut names = Many::new(self.alloc);
-        for (name, _) in &self.thunks {
-            names.push(*name)?;
-        }
-        Ok(names)
-    }
-
-    /// Adds an object: mostly it is held, but now and then it is absent, or other bytes stand under its name.
-    fn keep(&mut self, bytes: &[u8]) -> Result<(), Fail> {
+    /// Adds an object, and gives its name.
+    fn keep(&mut self, bytes: &[u8]) -> Result<Name, Fail> {
         let name = name_of(bytes)?;
-        let under = match self.dice.roll(90) {
-            0 => return Ok(()),
-            1 => b"?".as_slice(),
-            _ => bytes,
-        };
-        let copy = Bytes::from_slice(self.alloc, under)?;
-        put(&mut self.objects, name, copy)?;
-        Ok(())
+        put(
+            &mut self.objects,
+            name,
+            Bytes::from_slice(self.alloc, bytes)?,
+        )?;
+        Ok(name)
     }
 
+    /// Adds a thunk: every third answers with the text of an earlier one, where there is one. Now and then it is none.
     fn add_thunk(&mut self) -> Result<(), Fail> {
-        let mut text = self.text()?;
+        let index = self.dice.roll(self.texts.len().saturating_mul(3));
+        let mut text = match self.texts.get(index) {
+            Some(text) => {
+                let text = text.copy(self.alloc)?;
+                self.giving(text.as_slice())?
+            }
+            None => self.joining()?,
+        };
         if self.dice.roll(50) == 0 {
             text.append(b"\n")?;
         }
-        self.keep(text.as_slice())?;
-        self.thunks.push((name_of(text.as_slice())?, text))?;
+        let name = self.keep(text.as_slice())?;
+        self.names.push(name)?;
+        self.texts.push(text)?;
         Ok(())
     }
 
-    /// The text of one more thunk: every third answers with the text of an earlier one, where there is one.
-    fn text(&mut self) -> Result<Bytes, Fail> {
-        let number = self.thunks.len();
-        let index = self.dice.index(number.saturating_mul(3));
-        match self.text_at(index)? {
-            Some(text) => self.giving(text.as_slice()),
-            None => self.joining(),
-        }
-    }
-
-    fn text_at(&self, index: usize) -> Result<Option<Bytes>, Fail> {
-        match self.thunks.get(index) {
-            Some((_, text)) => Ok(Some(text.copy(self.alloc)?)),
-            None => Ok(None),
-        }
-    }
-
-    /// A thunk that answers with this text, whose two halves are its inputs.
+    /// The text of a thunk that answers with this text, whose two halves are its inputs.
     fn giving(&mut self, text: &[u8]) -> Result<Bytes, Fail> {
         let (prefix, rest) = text.split_at(CUT.min(text.len()));
-        self.keep(prefix)?;
-        self.keep(rest)?;
         let function = Ref::Value(name_of(VALUES[0])?);
-        let inputs = [Ref::Value(name_of(prefix)?), Ref::Value(name_of(rest)?)];
-        let outputs = self.outputs();
+        let inputs = [Ref::Value(self.keep(prefix)?), Ref::Value(self.keep(rest)?)];
+        let outputs = self.dice.pick(OUTPUTS.as_slice());
         Ok(thunk_text(self.alloc, function, b"", &inputs, outputs)?)
     }
 
-    /// A thunk that joins what its references name, or fails.
+    /// The text of a thunk that joins what its references name, or with an argument fails.
     fn joining(&mut self) -> Result<Bytes, Fail> {
         let function = self.reference()?;
-        let inputs = self.references()?;
-        let args = self.args();
-        let outputs = self.outputs();
-        Ok(thunk_text(self.alloc, function, args, inputs.as_slice(), outputs)?)
-    }
-
-    /// The lines of a thunk's arguments: with one its function fails.
-    fn args(&mut self) -> &'static [u8] {
-        match self.dice.roll(30) {
-            0 => b"a 4:fail\n",
-            _ => b"",
-        }
-    }
-
-    /// The lines of a thunk's outputs.
-    fn outputs(&mut self) -> &'static [u8] {
-        match self.dice.roll(3) {
-            0 => b"o 1:x\no 1:y\n",
-            _ => b"o 1:x\n",
-        }
-    }
-
-    fn references(&mut self) -> Result<Many<Ref>, Fail> {
-        let mut references = Many::new(self.alloc);
+        let mut inputs = Many::new(self.alloc);
         for _ in 0..self.dice.roll(4) {
-            references.push(self.reference()?)?;
+            inputs.push(self.reference()?)?;
         }
-        Ok(references)
+        let args = match self.dice.roll(30) {
+            0 => b"a 4:fail\n".as_slice(),
+            _ => b"",
+        };
+        let outputs = self.dice.pick(OUTPUTS.as_slice());
+        Ok(thunk_text(self.alloc, function, args, inputs.as_slice(), outputs)?)
     }
 
     /// A value, or an output of a thunk that was added before, which may not be there.
     fn reference(&mut self) -> Result<Ref, Fail> {
-        let number = self.thunks.len();
-        let place = self.dice.index(number.saturating_add(3));
-        let index = self.dice.roll(20).saturating_sub(17);
-        match self.thunks.get(place) {
-            Some((name, _)) => Ok(Ref::Out(*name, index)),
-            None => self.value(),
+        let index = self.dice.roll(20).saturating_sub(17) as u32;
+        let thunk = self.dice.roll(self.names.len().saturating_add(3));
+        match self.names.get(thunk) {
+            Some(name) => Ok(Ref::Out(*name, index)),
+            None => Ok(Ref::Value(name_of(self.dice.pick(VALUES.as_slice()))?)),
         }
     }
-
-    fn value(&mut self) -> Result<Ref, Fail> {
-        let place = self.dice.index(VALUES.len());
-        let text = VALUES.get(place).ok_or("a value")?;
-        Ok(Ref::Value(name_of(text)?))
-    }
 }
 
-/// A content with some objects taken away or damaged, and some notes replaced by those of other thunks.
-pub fn spoiled(alloc: Global, content: &Content, seed: u64) -> Result<Content, Fail> {
-    let mut dice = Dice(seed);
-    let objects = spoiled_objects(alloc, &mut dice, content.objects.as_slice())?;
-    let notes = spoiled_notes(alloc, &mut dice, content.notes.as_slice())?;
-    Ok(Content { objects, notes })
-}
-
-fn spoiled_objects(
+/// Some objects, a few of them taken away or damaged.
+pub fn spoiled_objects(
     alloc: Global,
     dice: &mut Dice,
     objects: &[(Name, Bytes)],
 ) -> Result<Vec<(Name, Bytes)>, Fail> {
     let mut left = Vec::new(alloc);
     for (name, bytes) in objects {
-        let under = match dice.roll(40) {
+        let under = match dice.roll(60) {
             0 => continue,
             1 => b"!".as_slice(),
             _ => bytes.as_slice(),
@@ -202,14 +158,15 @@ fn spoiled_objects(
     Ok(left)
 }
 
-fn spoiled_notes(
+/// Some notes, a few of them replaced by those of other thunks, or by false ones.
+pub fn spoiled_notes(
     alloc: Global,
     dice: &mut Dice,
     notes: &[(Name, Bytes)],
 ) -> Result<Vec<(Name, Bytes)>, Fail> {
     let mut left = Vec::new(alloc);
     for (name, text) in notes {
-        let Some((_, other)) = notes.get(dice.index(notes.len())) else {
+        let Some((_, other)) = notes.get(dice.roll(notes.len())) else {
             continue;
         };
         let note = match dice.roll(6) {

@@ -22,8 +22,8 @@ use Rattle.need_eval.specs.Eval.{Ended, Got, Stopped, Stop, Refused, Clash, star
 use Rattle.need_eval.specs.Evaluation.{values_of, by_function}
 use Rattle.need_eval.specs.declared.evaluating.Values.{Values}
 use Rattle.need_eval.specs.Evaluating.{EvaluatesAll}
-use Rattle.need_eval.specs.WritePrefix.{state_after, IsWritePrefix, Gives, StopsWith, Stops}
-use Rattle.need_eval.proofs.Growth.{store_is_written}
+use Rattle.need_eval.specs.WritePrefix.{state_after, IsWritePrefix, Yields, StopsWith, Stops}
+use Rattle.need_eval.proofs.PublicLaws.{store_is_written}
 use Rattle.sandbox_run.specs.Cards.{card_outcome}
 use Rattle.gg_cli.specs.declared.fault.TopFault.{TopFault}
 use Rattle.gg_cli.specs.declared.fault.TopFault.TheVariants as tops
@@ -63,7 +63,7 @@ forced_writes items (Stopped why s) = refl
 
 module _ (e : Ended (List ObjectName)) (before after : Store) (law : (state_after e).store ≡ written before (state_after e).writes) where
   -- the evaluation gave names
-  has_values : (names : List ObjectName) (steps : ℕ) → Gives names steps e after → HasValues e names before after
+  has_values : (names : List ObjectName) (steps : ℕ) → Yields names steps e after → HasValues e names before after
   has_values names steps gives =
       let kept = rw gives.got at law in
       record { last = gives.last; got = gives.got; store = gives.store; writes = gives.store ∙ kept }

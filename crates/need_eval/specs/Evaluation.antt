@@ -101,8 +101,8 @@ module _ (answer : ℕ → Job → Option Outcome) where
 
 module _ (budget : ℕ) where
   -- one step for the entry into a thunk, or the passage to it, where the budget has one left
-  abbrev pub count : ObjectName → Eval (Unit {0})
-  count name = do
+  abbrev pub count_step : ObjectName → Eval (Unit {0})
+  count_step name = do
     s ← current
     check (nat_lt s.steps budget) (Refused (Spent name budget))
     step
@@ -112,7 +112,7 @@ module _ (budget : ℕ) where
   entered name index = do
     t ← thunk_at name
     check (nat_lt index (length t.outputs)) (Refused (NoOutput name index))
-    count name
+    count_step name
     give t
 
 module _ (answer : ℕ → Job → Option Outcome) (budget : ℕ) where
@@ -137,7 +137,7 @@ module _ (answer : ℕ → Job → Option Outcome) (budget : ℕ) where
     abbrev pub passed : Kind → ObjectName → Eval ObjectName
     passed kinds.Value output = give output
     passed kinds.Thunk output = do
-      count budget output
+      count_step budget output
       deeper (Out output 0)
 
     abbrev pub value_by : Ref → Eval ObjectName

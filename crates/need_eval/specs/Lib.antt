@@ -1,11 +1,12 @@
 pub mod Eval
 pub mod Evaluation
 pub mod WritePrefix
-pub mod Pieces
+pub mod StepContracts
 pub mod Machine
+pub mod WalkerInvariant
 pub mod Walking
-pub mod Turning
-pub mod Putting
+pub mod TurnContracts
+pub mod WriteContracts
 pub mod Walk
 pub mod Evaluating
 pub mod Progress

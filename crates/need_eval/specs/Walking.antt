@@ -1,5 +1,6 @@
 -- A walker and the store: what is left of the evaluation, and what the walker's calls do to it.
-use Rattle.std.specs.Prelude.{◌≡◌, ◌≤◌, ◌-◌, ℕ, List, [], ◌∷◌, ◌++◌, length, Bool, true, false, Option, Some, None, IsSome, Result, Ok, Err}
+use Rattle.std.specs.Prelude.{◌≡◌, ◌≤◌, ◌+◌, ◌-◌, ◌*◌, ℕ, List, [], ◌∷◌, ◌++◌, length, sum_by, Bool, true, Option, Some, None, IsSome, Result, Ok, Err}
+use Rattle.std.specs.Option.{option_map}
 use Rattle.std.specs.HashMap.{get}
 use Rattle.object_name.specs.Name.{ObjectName, name_of}
 use Rattle.object_name.specs.contracts.name.NamePartialEq.TheImpl as name_equality
@@ -13,17 +14,17 @@ use Rattle.blob_store.specs.Store.{Store, Write, written}
 use Rattle.reduction_cache.specs.Hit.{hit_of}
 use Rattle.need_eval.specs.declared.fault.EvalFault.{EvalFault}
 use Rattle.need_eval.specs.declared.frame.Frame.{Frame}
-use Rattle.need_eval.specs.declared.standing.Prepared.{Prepared}
-use Rattle.need_eval.specs.declared.standing.Standing.{Standing}
-use Rattle.need_eval.specs.declared.standing.Standing.TheVariants as standings
+use Rattle.need_eval.specs.declared.prepared.Prepared.{Prepared}
+use Rattle.need_eval.specs.declared.stage.Stage.TheVariants as stages
 use Rattle.need_eval.specs.declared.walker.Walker.{Walker}
 use Rattle.need_eval.specs.declared.walker.Walked.{Walked}
 use Rattle.need_eval.specs.declared.walker.Walked.TheVariants.{Ended, Blocked}
 use Rattle.need_eval.specs.Eval.{State, Eval, Got}
 use Rattle.need_eval.specs.Evaluation.{job_of}
-use Rattle.need_eval.specs.Machine.{resume, work_left}
+use Rattle.need_eval.specs.Machine.{resume}
+use Rattle.need_eval.specs.WalkerInvariant.{waiting_in, is_end}
 use Rattle.need_eval.specs.WritePrefix.{Stops}
-use Rattle.need_eval.specs.Pieces.{StopsReading}
+use Rattle.need_eval.specs.StepContracts.{StopsReading}
 
 -- the outputs of the thunk of this name, where it was reduced
 abbrev pub reduced_at : Walker → ObjectName → Option (List ObjectName)
@@ -37,9 +38,17 @@ walking w store writes asked = record { store = store; reduced = reduced_at w; s
 abbrev pub left : (ℕ → Job → Option Outcome) → Walker → Eval (List ObjectName)
 left answer w = resume answer w.budget w.frames.items w.level.done w.level.rest.items
 
--- how much is left to be done, at most
+-- how much is left to be done, at most: each step may bring the REFs of a thunk
+abbrev pub work_left : ℕ → List Frame → List Ref → ℕ
+work_left steps_left frames rest = steps_left * 4100 + length rest + sum_by (λ frame. length frame.outer.rest.items + 2) frames
+
 abbrev pub work_of : Walker → ℕ
 work_of w = work_left (w.budget - w.steps) w.frames.items w.level.rest.items
+
+-- a walker has the limits of another
+pub record HasSetup (before after : Walker) : Type 0 where
+  pub budget : after.budget ≡ before.budget
+  pub retries : after.retries ≡ before.retries
 
 -- nothing was done yet, and these are wanted
 pub record IsFresh (refs : List Ref) (budget : ℕ) (w : Walker) : Type 0 where
@@ -50,17 +59,17 @@ pub record IsFresh (refs : List Ref) (budget : ℕ) (w : Walker) : Type 0 where
   pub steps : w.steps ≡ 0
   pub budgets : w.budget ≡ budget
 
+-- a walker goes on when it is asked to
+abbrev pub IsWalking : Walker → Type 0
+IsWalking w = w.stage ≡ stages.Walking
+
 -- the job whose outcome is waited for
-abbrev pub blocked_at : Standing → Option Prepared
-blocked_at standings.Walking = None
-blocked_at (standings.Blocked prepared) = Some prepared
-blocked_at standings.Ended = None
+abbrev pub blocked_at : Walker → Option Prepared
+blocked_at w = option_map (λ waiting. waiting.prepared) (waiting_in w.stage)
 
 -- whether the evaluation is over
-abbrev pub is_over : Standing → Bool
-is_over standings.Walking = false
-is_over (standings.Blocked prepared) = false
-is_over standings.Ended = true
+abbrev pub is_over : Walker → Bool
+is_over w = is_end w.stage
 
 -- the resolved thunk inside the innermost
 abbrev pub innermost : Frame → List ObjectName → Parts
@@ -78,11 +87,13 @@ pub record StandsAt (w : Walker) (store : Store) (p : Prepared) : Type 0 where
   pub text : p.text ≡ text_of (innermost inner w.level.done)
   pub job : (s : State) → s.store ≡ store → job_of (innermost inner w.level.done) s ≡ Got p.job s
 
--- the walker waits at a job, and the evaluation stands there
-abbrev pub Waits : Standing → Walker → Store → Type 0
-Waits standings.Walking w store = ⊥
-Waits (standings.Blocked prepared) w store = StandsAt w store prepared
-Waits standings.Ended w store = ⊥
+-- a walker waits at this job, and the evaluation stands there
+abbrev pub WaitsFor : Option Prepared → Walker → Store → Type 0
+WaitsFor None w store = ⊥
+WaitsFor (Some prepared) w store = StandsAt w store prepared
+
+abbrev pub Waits : Walker → Store → Type 0
+Waits w store = WaitsFor (blocked_at w) w store
 
 -- a walker went on, and nothing was written: what is left is what was left, with any answers
 abbrev pub GoesOn : Walker → Walker → Store → Type 0
@@ -93,7 +104,7 @@ GoesOn before after store = (answer : ℕ → Job → Option Outcome) (writes : 
 abbrev pub Advances : Walker → Walker → Store → Result Walked EvalFault → Type 0
 Advances before after store (Ok (Ended values)) = (answer : ℕ → Job → Option Outcome) (writes : List Write) (asked : List Job) →
     left answer before (walking before store writes asked) ≡ Got values.names (walking after store writes asked)
-Advances before after store (Ok Blocked) = GoesOn before after store × Waits after.standing after store
+Advances before after store (Ok Blocked) = GoesOn before after store × Waits after store
 Advances before after store (Err fault) = (answer : ℕ → Job → Option Outcome) (writes : List Write) (asked : List Job) →
     StopsReading (left answer before (walking before store writes asked)) store fault
 
@@ -111,10 +122,10 @@ Supplies before after p outcome old now (Err fault) = (answer : ℕ → Job → 
     Stops (walking before old writes asked) (left answer before (walking before old writes asked)) now fault
 
 -- a walker is over after its values and after a fault, and waits at a job
-abbrev pub StandsAs : Standing → Result Walked EvalFault → Type 0
-StandsAs standing (Ok (Ended values)) = is_over standing ≡ true
-StandsAs standing (Ok Blocked) = IsSome (blocked_at standing)
-StandsAs standing (Err fault) = is_over standing ≡ true
+abbrev pub StandsAs : Walker → Result Walked EvalFault → Type 0
+StandsAs w (Ok (Ended values)) = is_over w ≡ true
+StandsAs w (Ok Blocked) = IsSome (blocked_at w)
+StandsAs w (Err fault) = is_over w ≡ true
 
 -- the steps that the values took are those of the walker
 abbrev pub HasSteps : Walker → Walked → Type 0

@@ -1,12 +1,13 @@
 -- What a call that evaluates has done: all that the definition says, or a prefix of its writes.
 use Rattle.std.specs.Prelude.{◌≡◌, ℕ, List, ◌++◌, Result, Ok, Err}
 use Rattle.std.specs.List.{AllZip}
-use Rattle.object_name.specs.Name.{ObjectName, name_of}
+use Rattle.object_name.specs.Name.{ObjectName}
 use Rattle.object_name.specs.Causes.{Rose, RoseBy}
 use Rattle.thunk_codec.specs.declared.job.Job.{Job}
 use Rattle.thunk_codec.specs.declared.job.Outcome.{Outcome}
 use Rattle.thunk_codec.specs.Outcome.{Fits}
 use Rattle.blob_store.specs.Store.{Store, Write, written}
+use Rattle.blob_store.specs.Keeping.{HaveOneName}
 use Rattle.need_eval.specs.declared.fault.EvalFault.{EvalFault}
 use Rattle.need_eval.specs.declared.fault.EvalFault.TheVariants as faults
 use Rattle.need_eval.specs.declared.evaluating.Values.{Values}
@@ -24,12 +25,6 @@ pub record IsWritePrefix {A : Type 0} (s : State) (e : Ended A) (now : Store) : 
   pub list : (state_after e).writes ≡ s.writes ++ (prefix ++ others)
   pub kept : now ≡ written s.store prefix
 
--- two byte strings that differ have this name
-pub record HaveOneName (name : ObjectName) (found fresh : List ℕ) : Type 0 where
-  pub first : name_of found ≡ name
-  pub second : name_of fresh ≡ name
-  pub differ : found ≡ fresh → ⊥
-
 -- the evaluation stops so, and the store is as it leaves it
 pub record StopsWith {A : Type 0} (why : Stop) (e : Ended A) (now : Store) : Type 0 where
   pub last : State
@@ -45,7 +40,7 @@ Stops s e now faults.RunFailed = IsWritePrefix s e now
 Stops s e now faults.Memory = IsWritePrefix s e now
 
 -- the evaluation gives this, and the store is as it leaves it
-pub record Gives {A : Type 0} (x : A) (steps : ℕ) (e : Ended A) (now : Store) : Type 0 where
+pub record Yields {A : Type 0} (x : A) (steps : ℕ) (e : Ended A) (now : Store) : Type 0 where
   pub last : State
   pub got : e ≡ Got x last
   pub steps_used : steps ≡ last.steps
@@ -53,7 +48,7 @@ pub record Gives {A : Type 0} (x : A) (steps : ℕ) (e : Ended A) (now : Store) 
 
 -- what a call that evaluates did, by its answer
 abbrev pub Does : State → Ended (List ObjectName) → Store → Result Values EvalFault → Type 0
-Does s e now (Ok values) = Gives values.names values.steps e now
+Does s e now (Ok values) = Yields values.names values.steps e now
 Does s e now (Err fault) = Stops s e now fault
 
 -- each outcome fits its job, and is the function's where that is told

@@ -6,7 +6,7 @@ ghost use Rattle.thunk_codec.specs.Outcome.{Fits};
 ghost use Rattle.thunk_codec.specs.Reference.{IsRef};
 ghost use Rattle.need_eval.specs.Evaluating.{EvaluatesAll, EvaluatesSome};
 ghost use Rattle.need_eval.specs.WritePrefix.{EvalCause, ClashShows};
-ghost use Rattle.need_eval.specs.Pieces.{RunCause};
+ghost use Rattle.need_eval.specs.StepContracts.{RunCause};
 ghost use Rattle.need_eval.specs.Walking.{blocked_at};
 
 use crate::fault::EvalFault;
@@ -60,9 +60,9 @@ fn run_blocked<R: Runner>(
     walker: &Walker,
     runner: &mut R,
 ) -> Result<Outcome, EvalFault>
-    requires { IsSome (blocked_at walker.now.standing) }
-    ensures fits { IfOk result (λ outcome. IfSome (blocked_at walker.now.standing) (λ prepared. Fits prepared.job outcome)) }
-    ensures told { IfOk result (λ outcome. IfSome (blocked_at walker.now.standing) (λ prepared. R.tells prepared.job → outcome ≡ R.outcome prepared.job)) }
+    requires { IsSome (blocked_at walker.now) }
+    ensures fits { IfOk result (λ outcome. IfSome (blocked_at walker.now) (λ prepared. Fits prepared.job outcome)) }
+    ensures told { IfOk result (λ outcome. IfSome (blocked_at walker.now) (λ prepared. R.tells prepared.job → outcome ≡ R.outcome prepared.job)) }
     ensures later { R.faults runner.old ≤ R.faults runner.new }
     ensures cause { IfErr result (RunCause (R.faults runner.old) (R.faults runner.new)) }
 {

@@ -22,7 +22,7 @@ pub struct Frame {
 }
 
 impl Level {
-    ghost use Rattle.std.specs.Prelude.{◌≡◌, ◌↔◌, ◌<◌, IsTrue, ◌++◌, ◌∷◌, [], None, drop, length, IfOk, IfSome, OnOk, OnErr};
+    ghost use Rattle.std.specs.Prelude.{◌≡◌, ◌<◌, ◌++◌, ◌∷◌, [], None, drop, length, IfOk, IfSome, OnOk, OnErr};
     ghost use Rattle.thunk_codec.specs.declared.reference.Ref.TheVariants.{Out};
     ghost use Rattle.thunk_codec.specs.Thunk.{IsThunk};
     ghost use Rattle.thunk_codec.specs.Resolved.{refs_of};
@@ -42,13 +42,6 @@ impl Level {
             done: Many::new(alloc),
             rest,
         })
-    }
-
-    /// Whether all values that were wanted are there.
-    pub fn is_gathered(&self) -> bool
-        ensures { IsTrue result ↔ (self.now.rest.items ≡ []) }
-    {
-        self.rest.is_empty()
     }
 
     /// The reference whose value is wanted next.

@@ -1,9 +1,9 @@
 //! The job of a thunk whose references are all values.
 
-ghost use Rattle.std.specs.Prelude.{◌≡◌, ◌≤◌, IfOk, IfErr};
+ghost use Rattle.std.specs.Prelude.{◌≡◌, IfOk};
 ghost use Rattle.need_eval.specs.Eval.{State, each};
 ghost use Rattle.need_eval.specs.Evaluation.{input_object, job_of};
-ghost use Rattle.need_eval.specs.Pieces.{Reads, KeeperCause};
+ghost use Rattle.need_eval.specs.StepContracts.{Reads, OnlyReads};
 
 use crate::fault::EvalFault;
 use crate::reading::object;
@@ -32,9 +32,7 @@ fn input_object<K: Keeper>(
     retries: u32,
 ) -> Result<(Path, Bytes), EvalFault>
     ensures reads { K.tells → (s : State) → s.store ≡ K.store keeper.old → Reads (λ read. read) (input_object (path.now, reference.now) s) s result }
-    ensures same { K.tells → K.store keeper.new ≡ K.store keeper.old }
-    ensures later { K.faults keeper.old ≤ K.faults keeper.new }
-    ensures cause { IfErr result (KeeperCause retries (K.faults keeper.old) (K.faults keeper.new)) }
+    ensures only_reads { OnlyReads K.tells K.store K.faults keeper.old keeper.new retries result }
 {
     let bytes = object(alloc, keeper, reference.name(), retries)?;
     let path = path.copy(alloc)?;
@@ -49,9 +47,7 @@ fn input_objects<K: Keeper>(
     retries: u32,
 ) -> Result<Many<(Path, Bytes)>, EvalFault>
     ensures reads { K.tells → (s : State) → s.store ≡ K.store keeper.old → Reads (λ read. read) (each input_object inputs.now s) s result }
-    ensures same { K.tells → K.store keeper.new ≡ K.store keeper.old }
-    ensures later { K.faults keeper.old ≤ K.faults keeper.new }
-    ensures cause { IfErr result (KeeperCause retries (K.faults keeper.old) (K.faults keeper.new)) }
+    ensures only_reads { OnlyReads K.tells K.store K.faults keeper.old keeper.new retries result }
 {
     let mut read = Many::new(alloc);
     'inputs: for (path, reference) in inputs {
@@ -69,9 +65,8 @@ pub fn job_of<K: Keeper>(
     retries: u32,
 ) -> Result<Job, EvalFault>
     ensures reads { K.tells → (s : State) → s.store ≡ K.store keeper.old → Reads (λ job. job) (job_of thunk.now s) s result }
-    ensures same { K.tells → K.store keeper.new ≡ K.store keeper.old }
-    ensures later { K.faults keeper.old ≤ K.faults keeper.new }
-    ensures cause { IfErr result (KeeperCause retries (K.faults keeper.old) (K.faults keeper.new)) }
+    ensures outputs { IfOk result (λ job. job.outputs ≡ thunk.now.outputs) }
+    ensures only_reads { OnlyReads K.tells K.store K.faults keeper.old keeper.new retries result }
 {
     let function = object(alloc, keeper, thunk.function().name(), retries)?;
     let inputs = input_objects(alloc, keeper, thunk.inputs(), retries)?;

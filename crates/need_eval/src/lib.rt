@@ -2,19 +2,21 @@
 #![tactic(auto)]
 
 mod evaluating;
-mod exits;
 mod fault;
 mod frame;
 mod jobs;
 pub mod laws;
+mod prepared;
 mod reading;
-mod standing;
+mod reference_turns;
+mod stage;
 mod supplying;
-mod turning;
+mod thunk_turns;
+mod waiting;
 mod walker;
 mod writing;
 
 pub use evaluating::{Values, evaluate};
 pub use fault::{EvalFault, Refusal};
-pub use standing::Prepared;
+pub use prepared::Prepared;
 pub use walker::{Walked, Walker};

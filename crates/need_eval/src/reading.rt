@@ -1,15 +1,13 @@
 //! What an evaluation reads.
 
-ghost use Rattle.std.specs.Prelude.{◌≡◌, ◌≤◌, ℕ, length, Some, IfOk, IfErr, slice_get};
-ghost use Rattle.object_name.specs.Name.{max_size, name_of};
+ghost use Rattle.std.specs.Prelude.{◌≡◌, ◌≤◌, ℕ, List, length, Some, IfOk, IfErr, slice_get};
+ghost use Rattle.object_name.specs.Name.{ObjectName, max_size, name_of};
 ghost use Rattle.blob_store.specs.Store.{Store};
 ghost use Rattle.reduction_cache.specs.Hit.{hit_of};
 ghost use Rattle.need_eval.specs.declared.fault.Refusal.TheVariants.{NoOutput};
 ghost use Rattle.need_eval.specs.Eval.{State, Ended, Refused, need};
 ghost use Rattle.need_eval.specs.Evaluation.{object, thunk_at};
-ghost use Rattle.need_eval.specs.Pieces.{Reads, StopsReading, KeeperCause};
-ghost use Rattle.object_name.specs.Name.{ObjectName};
-ghost use Rattle.std.specs.Prelude.{List};
+ghost use Rattle.need_eval.specs.StepContracts.{Reads, OnlyReads, StopsReading, KeeperCause};
 
 use crate::fault::{EvalFault, Refusal};
 use blob_store::{Keeper, fetch};
@@ -26,9 +24,7 @@ pub fn object<K: Keeper>(
     retries: u32,
 ) -> Result<Bytes, EvalFault>
     ensures reads { K.tells → (s : State) → s.store ≡ K.store keeper.old → Reads (λ bytes. bytes) (object name.now s) s result }
-    ensures same { K.tells → K.store keeper.new ≡ K.store keeper.old }
-    ensures later { K.faults keeper.old ≤ K.faults keeper.new }
-    ensures cause { IfErr result (KeeperCause retries (K.faults keeper.old) (K.faults keeper.new)) }
+    ensures only_reads { OnlyReads K.tells K.store K.faults keeper.old keeper.new retries result }
 {
     match fetch(alloc, keeper, name, retries) {
         Ok(Some(bytes)) => Ok(bytes),
@@ -46,9 +42,7 @@ pub fn thunk_at<K: Keeper>(
     retries: u32,
 ) -> Result<Thunk, EvalFault>
     ensures reads { K.tells → (s : State) → s.store ≡ K.store keeper.old → Reads (λ t. t) (thunk_at name.now s) s result }
-    ensures same { K.tells → K.store keeper.new ≡ K.store keeper.old }
-    ensures later { K.faults keeper.old ≤ K.faults keeper.new }
-    ensures cause { IfErr result (KeeperCause retries (K.faults keeper.old) (K.faults keeper.new)) }
+    ensures only_reads { OnlyReads K.tells K.store K.faults keeper.old keeper.new retries result }
 {
     let bytes = object(alloc, keeper, name, retries)?;
     match decode(alloc, bytes.as_slice()) {
@@ -70,23 +64,27 @@ pub fn output_at(name: &Name, index: u32, outputs: &[Name]) -> Result<Name, Eval
     }
 }
 
-/// The outputs of a resolved thunk of this text that a note has, where there are so many and all are held.
+/// The name of an object with these bytes.
+pub fn text_name(text: &[u8]) -> Name
+    requires { length text.now ≤ max_size }
+    ensures { result ≡ name_of text.now }
+{
+    name_of(text).unwrap()
+}
+
+/// The outputs of a resolved thunk of this name that a note has, where there are so many and all are held.
 pub fn noted<K: Keeper>(
     alloc: Global,
     keeper: &mut K,
-    text: &[u8],
+    resolved: &Name,
     outputs: u32,
     retries: u32,
 ) -> Result<Option<Many<Name>>, EvalFault>
-    requires { length text.now ≤ max_size }
-    ensures found { K.tells → IfOk result (λ found. found ≡ hit_of (K.store keeper.old) (name_of text.now) outputs) }
+    ensures found { K.tells → IfOk result (λ found. found ≡ hit_of (K.store keeper.old) resolved.now outputs) }
     ensures fault { IfErr result (λ fault. (e : Ended (List ObjectName)) (store : Store) → StopsReading e store fault) }
-    ensures same { K.tells → K.store keeper.new ≡ K.store keeper.old }
-    ensures later { K.faults keeper.old ≤ K.faults keeper.new }
-    ensures cause { IfErr result (KeeperCause retries (K.faults keeper.old) (K.faults keeper.new)) }
+    ensures only_reads { OnlyReads K.tells K.store K.faults keeper.old keeper.new retries result }
 {
-    let resolved = name_of(text).unwrap();
-    match hit(alloc, keeper, &resolved, outputs, retries) {
+    match hit(alloc, keeper, resolved, outputs, retries) {
         Ok(found) => Ok(found),
         Err(Trouble::Failed) => Err(EvalFault::StoreFailed),
         Err(Trouble::Memory) => Err(EvalFault::Memory),

@@ -1,12 +1,13 @@
 //! Evaluation that can be left and resumed.
 
 ghost use Rattle.std.specs.Prelude.{IsTrue, ◌≤◌};
-ghost use Rattle.need_eval.specs.Machine.{is_sound};
+ghost use Rattle.need_eval.specs.WalkerInvariant.{is_sound, is_ready};
 
 use crate::evaluating::Values;
 use crate::fault::EvalFault;
 use crate::frame::{Frame, Level};
-use crate::standing::{Prepared, Standing};
+use crate::prepared::Prepared;
+use crate::stage::{Halt, Stage};
 use blob_store::Keeper;
 use object_name::{Many, Name};
 use std::alloc::{AllocError, Global};
@@ -16,17 +17,25 @@ use thunk_codec::{Outcome, Ref};
 
 /// An evaluation that stands somewhere inside. It owns neither the store nor what runs jobs: whoever has them calls `advance`
 /// until it is `Blocked`, runs the job, and hands its outcome to `supply`. Between two calls the store stays as it is.
+///
+/// It stands inside the thunks of `frames`, the innermost first. A thunk is entered when one of its outputs is wanted: the values
+/// of its references are gathered in `level`, and what was gathered round the thunk waits in its frame. When they are all there
+/// its outputs are found, by a note or by the outcome of its job, and the walker goes on round it.
 #[derive(Drop)]
 pub struct Walker {
+    /// The thunks that were entered, the innermost first.
     pub(crate) frames: VecDeque<Frame>,
+    /// What is gathered now.
     pub(crate) level: Level,
+    /// The outputs of the thunks that were reduced.
     pub(crate) reduced: HashMap<Name, Many<Name>>,
     pub(crate) steps: u32,
     pub(crate) budget: u32,
     pub(crate) retries: u32,
-    pub(crate) standing: Standing,
+    pub(crate) stage: Stage,
     ghost sound: { IsTrue (is_sound frames.items level.done level.rest.items) },
     ghost within: { steps ≤ budget },
+    ghost ready: { IsTrue (is_ready stage frames.items level.rest.items) },
 }
 
 /// How far an evaluation has come.
@@ -39,13 +48,15 @@ pub enum Walked {
 }
 
 impl Walker {
-    ghost use Rattle.std.specs.Prelude.{◌≡◌, ◌≤◌, ◌<◌, true, IfOk, IfErr, OnOk, OnErr, IfSome, IsSome};
+    ghost use Rattle.std.specs.Prelude.{◌≡◌, ◌≤◌, ◌<◌, true, IfOk, OnOk, OnErr, IfSome, IsSome};
     ghost use Rattle.std.specs.Option.{option_map};
     ghost use Rattle.std.specs.List.{AllByRecursion};
     ghost use Rattle.thunk_codec.specs.Reference.{IsRef};
     ghost use Rattle.thunk_codec.specs.Outcome.{Fits};
-    ghost use Rattle.need_eval.specs.Pieces.{KeeperCause};
-    ghost use Rattle.need_eval.specs.Walking.{IsFresh, blocked_at, is_over, work_of, Advances, StandsAt, Supplies, StandsAs, HasSteps};
+    ghost use Rattle.need_eval.specs.declared.stage.Stage.TheVariants as stages;
+    ghost use Rattle.need_eval.specs.StepContracts.{HasKeeperCause, OnlyReads};
+    ghost use Rattle.need_eval.specs.TurnContracts.{HaltsAs, IsHalted, IsInTurn};
+    ghost use Rattle.need_eval.specs.Walking.{IsFresh, IsWalking, HasSetup, blocked_at, is_over, work_of, Advances, StandsAt, Supplies, StandsAs, HasSteps};
 
     /// An evaluation of some references that has not begun. The budget is the greatest number of steps; a failed call of a keeper
     /// is tried again, `retries` times at most.
@@ -58,7 +69,7 @@ impl Walker {
         requires { AllByRecursion IsRef refs }
         ensures fresh { IfOk result (λ w. IsFresh refs budget w) }
         ensures retries { IfOk result (λ w. w.retries ≡ retries) }
-        ensures walking { IfOk result (λ w. w.standing ≡ Standing.Walking) }
+        ensures walking { IfOk result IsWalking }
     {
         let level = Level {
             done: Many::new(alloc),
@@ -71,38 +82,61 @@ impl Walker {
             steps: 0,
             budget,
             retries,
-            standing: Standing::Walking,
+            stage: Stage::Walking,
         })
     }
 
     /// Goes on up to the end, or to a job whose outcome isn't there. Nothing is written. After a fault it is over.
     pub fn advance<K: Keeper>(&mut self, alloc: Global, keeper: &mut K) -> Result<Walked, EvalFault>
-        requires { self.old.standing ≡ Standing.Walking }
+        requires { IsWalking self.old }
         // What is left of the evaluation is what was left; at a job the evaluation stands at the job of that text.
         ensures walks { K.tells → Advances self.old self.new (K.store keeper.old) result }
-        ensures same { K.tells → K.store keeper.new ≡ K.store keeper.old }
-        ensures later { K.faults keeper.old ≤ K.faults keeper.new }
-        ensures cause { IfErr result (KeeperCause self.old.retries (K.faults keeper.old) (K.faults keeper.new)) }
+        ensures only_reads { OnlyReads K.tells K.store K.faults keeper.old keeper.new self.old.retries result }
         // At a job it waits; else it is over.
-        ensures stands { StandsAs self.new.standing result }
+        ensures stands { StandsAs self.new result }
         ensures steps { IfOk result (λ walked. HasSteps self.new walked) }
-        ensures setup { (self.new.budget ≡ self.old.budget) × (self.new.retries ≡ self.old.retries) }
+        ensures setup { HasSetup self.old self.new }
         ensures work { OnOk result (work_of self.new ≤ work_of self.old) }
     {
-        self.standing = Standing::Ended;
+        self.stage = Stage::Turning;
+        match self.turns(alloc, keeper) {
+            Ok(Halt::AtEnd(values)) => {
+                self.stage = Stage::Ended;
+                Ok(Walked::Ended(values))
+            }
+            Ok(Halt::AtJob(waiting)) => {
+                self.stage = Stage::Blocked(waiting);
+                Ok(Walked::Blocked)
+            }
+            Err(fault) => {
+                self.stage = Stage::Ended;
+                Err(fault)
+            }
+        }
+    }
+
+    /// Takes turns up to where they end.
+    fn turns<K: Keeper>(&mut self, alloc: Global, keeper: &mut K) -> Result<Halt, EvalFault>
+        requires { self.old.stage ≡ stages.Turning }
+        ensures walks { K.tells → HaltsAs self.old self.new (K.store keeper.old) result }
+        ensures halts { IfOk result (λ halt. IsHalted self.new halt) }
+        ensures only_reads { OnlyReads K.tells K.store K.faults keeper.old keeper.new self.old.retries result }
+        ensures in_turn { IsInTurn self.old self.new }
+        ensures work { OnOk result (work_of self.new ≤ work_of self.old) }
+    {
         'turns: loop {
-            if let Some(walked) = self.turn(alloc, keeper)? {
-                return Ok(walked);
+            if let Some(halt) = self.turn(alloc, keeper)? {
+                return Ok(halt);
             }
         }
     }
 
     /// The job whose outcome is waited for, and the text of its thunk.
     pub fn blocked(&self) -> Option<&Prepared>
-        ensures { option_map (λ prepared. prepared.now) result ≡ blocked_at self.now.standing }
+        ensures { option_map (λ prepared. prepared.now) result ≡ blocked_at self.now }
     {
-        match &self.standing {
-            Standing::Blocked(prepared) => Some(prepared),
+        match &self.stage {
+            Stage::Blocked(waiting) => Some(&waiting.prepared),
             _ => None,
         }
     }
@@ -115,33 +149,37 @@ impl Walker {
         keeper: &mut K,
         outcome: Outcome,
     ) -> Result<(), EvalFault>
-        requires blocked { IsSome (blocked_at self.old.standing) }
-        requires fits { IfSome (blocked_at self.old.standing) (λ prepared. Fits prepared.job outcome) }
+        requires blocked { IsSome (blocked_at self.old) }
+        requires fits { IfSome (blocked_at self.old) (λ prepared. Fits prepared.job outcome) }
         // Where the evaluation stands at this job, it goes on with this outcome.
-        ensures supplies { K.tells → IfSome (blocked_at self.old.standing) (λ prepared. StandsAt self.old (K.store keeper.old) prepared →
+        ensures supplies { K.tells → IfSome (blocked_at self.old) (λ prepared. StandsAt self.old (K.store keeper.old) prepared →
             Supplies self.old self.new prepared outcome (K.store keeper.old) (K.store keeper.new) result) }
-        ensures later { K.faults keeper.old ≤ K.faults keeper.new }
-        ensures cause { IfErr result (KeeperCause self.old.retries (K.faults keeper.old) (K.faults keeper.new)) }
-        ensures walking { OnOk result (self.new.standing ≡ Standing.Walking) }
-        ensures over { OnErr result (is_over self.new.standing ≡ true) }
-        ensures setup { (self.new.budget ≡ self.old.budget) × (self.new.retries ≡ self.old.retries) }
+        ensures cause { HasKeeperCause self.old.retries (K.faults keeper.old) (K.faults keeper.new) result }
+        ensures walking { OnOk result (IsWalking self.new) }
+        ensures over { OnErr result (is_over self.new ≡ true) }
+        ensures setup { HasSetup self.old self.new }
         ensures work { OnOk result (work_of self.new < work_of self.old) }
     {
-        let standing = replace(&mut self.standing, Standing::Ended);
-        let Standing::Blocked(prepared) = standing else {
-            return Err(EvalFault::Memory);
-        };
-        self.finish(alloc, keeper, &prepared, &outcome)?;
-        self.standing = Standing::Walking;
-        Ok(())
+        let stage = replace(&mut self.stage, Stage::Turning);
+        let waiting = stage.into_waiting();
+        match self.finish(alloc, keeper, &waiting, &outcome) {
+            Ok(()) => {
+                self.stage = Stage::Walking;
+                Ok(())
+            }
+            Err(fault) => {
+                self.stage = Stage::Ended;
+                Err(fault)
+            }
+        }
     }
 
     /// Whether it has come to its end, or to a fault.
     pub fn is_ended(&self) -> bool
-        ensures { result ≡ is_over self.now.standing }
+        ensures { result ≡ is_over self.now }
     {
-        match &self.standing {
-            Standing::Ended => true,
+        match &self.stage {
+            Stage::Ended => true,
             _ => false,
         }
     }

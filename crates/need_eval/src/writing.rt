@@ -1,6 +1,6 @@
 //! What an evaluation writes.
 
-ghost use Rattle.std.specs.Prelude.{◌≡◌, ◌≤◌, List, length, sum_by, IfOk, IfErr, IfSome};
+ghost use Rattle.std.specs.Prelude.{◌≡◌, ◌≤◌, length, sum_by, IfOk};
 ghost use Rattle.object_name.specs.declared.kind.Kind.TheVariants as kinds;
 ghost use Rattle.object_name.specs.Name.{max_size, name_of};
 ghost use Rattle.thunk_codec.specs.declared.job.Job.{Job};
@@ -8,8 +8,8 @@ ghost use Rattle.thunk_codec.specs.Outcome.{Fits};
 ghost use Rattle.thunk_codec.specs.Thunk.{Parts, text_of};
 ghost use Rattle.need_eval.specs.Eval.{each};
 ghost use Rattle.need_eval.specs.Evaluation.{store_one, outputs_by, finished};
-ghost use Rattle.need_eval.specs.Pieces.{KeeperCause, fault_of_store};
-ghost use Rattle.need_eval.specs.Putting.{PutsAs};
+ghost use Rattle.need_eval.specs.StepContracts.{HasKeeperCause, fault_of_store};
+ghost use Rattle.need_eval.specs.WriteContracts.{PutsAs};
 
 use crate::fault::{EvalFault, Refusal};
 use blob_store::{Keeper, StoreFault, store};
@@ -38,8 +38,7 @@ fn keep<K: Keeper>(
 ) -> Result<Name, EvalFault>
     requires { length bytes.now ≤ max_size }
     ensures puts { K.tells → PutsAs (store_one bytes.now) (K.store keeper.old) (K.store keeper.new) result }
-    ensures later { K.faults keeper.old ≤ K.faults keeper.new }
-    ensures cause { IfErr result (KeeperCause retries (K.faults keeper.old) (K.faults keeper.new)) }
+    ensures cause { HasKeeperCause retries (K.faults keeper.old) (K.faults keeper.new) result }
 {
     match store(alloc, keeper, bytes, retries) {
         Ok(name) => Ok(name),
@@ -57,8 +56,7 @@ fn keep_all<K: Keeper>(
     requires { sum_by length outputs.now ≤ max_size }
     ensures puts { K.tells → PutsAs (each store_one outputs.now) (K.store keeper.old) (K.store keeper.new) result }
     ensures number { IfOk result (λ names. length names ≡ length outputs.now) }
-    ensures later { K.faults keeper.old ≤ K.faults keeper.new }
-    ensures cause { IfErr result (KeeperCause retries (K.faults keeper.old) (K.faults keeper.new)) }
+    ensures cause { HasKeeperCause retries (K.faults keeper.old) (K.faults keeper.new) result }
 {
     let mut names = Many::new(alloc);
     'outputs: for output in outputs {
@@ -80,8 +78,7 @@ fn keep_outputs<K: Keeper>(
     requires { (job : Job) × Fits job outcome.now × (length job.outputs ≡ job_outputs) }
     ensures puts { K.tells → PutsAs (outputs_by name.now outcome.now) (K.store keeper.old) (K.store keeper.new) result }
     ensures number { IfOk result (λ names. length names ≡ job_outputs) }
-    ensures later { K.faults keeper.old ≤ K.faults keeper.new }
-    ensures cause { IfErr result (KeeperCause retries (K.faults keeper.old) (K.faults keeper.new)) }
+    ensures cause { HasKeeperCause retries (K.faults keeper.old) (K.faults keeper.new) result }
 {
     match outcome {
         Outcome::Done(outputs) => keep_all(alloc, keeper, outputs.as_slice(), retries),
@@ -107,8 +104,7 @@ pub fn keep_outcome<K: Keeper>(
     requires some_output { 1 ≤ job_outputs }
     requires few_outputs { job_outputs ≤ 64 }
     ensures puts { K.tells → (t : Parts) → resolved.now ≡ name_of (text_of t) → PutsAs (finished name.now t outcome.now) (K.store keeper.old) (K.store keeper.new) result }
-    ensures later { K.faults keeper.old ≤ K.faults keeper.new }
-    ensures cause { IfErr result (KeeperCause retries (K.faults keeper.old) (K.faults keeper.new)) }
+    ensures cause { HasKeeperCause retries (K.faults keeper.old) (K.faults keeper.new) result }
 {
     let outputs = keep_outputs(alloc, keeper, name, job_outputs, outcome, retries)?;
     match keep_note(alloc, keeper, resolved, outputs.as_slice(), retries) {

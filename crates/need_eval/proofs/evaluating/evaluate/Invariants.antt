@@ -1,5 +1,5 @@
 use Rattle.need_eval.specs.Walking.{work_of}
-use Rattle.need_eval.proofs.Rounds.{IsBetween}
+use Rattle.need_eval.proofs.EvaluateGoesRound.{IsBetween}
 use Rattle.need_eval.proofs.evaluating.evaluate.Given as goal
 
 abbrev pub invariant-walk : goal.invariant-walk

@@ -1,5 +1,5 @@
 use Rattle.std.proofs.lemmas.Result.{err_from_is_err_and}
-use Rattle.need_eval.proofs.ReadOnly.{input_object_stops, input_object_gives}
+use Rattle.need_eval.proofs.ReadingStops.{input_object_stops, input_object_gives}
 use Rattle.need_eval.proofs.jobs.input_object.Goals as goal
 
 pub returns-in_err-bytes-clause-reads : goal.returns-in_err-bytes-clause-reads

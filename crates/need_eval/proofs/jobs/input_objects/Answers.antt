@@ -1,13 +1,13 @@
 use Rattle.std.proofs.Common.{sym, ◌∙◌, arith}
 use Rattle.std.proofs.lemmas.Result.{err_from_is_err_and}
 use Rattle.need_eval.specs.Evaluation.{input_object}
-use Rattle.need_eval.proofs.Inputs.{AreLeft-more, AreLeft-stop, AreLeft-end}
+use Rattle.need_eval.proofs.InputsAreRead.{AreLeft-more, AreLeft-stop, AreLeft-end}
 use Rattle.need_eval.proofs.jobs.input_objects.Goals as goal
 
 pub inputs-preserved : goal.inputs-preserved
 inputs-preserved g c = record {
-  same = λ told. c.input_object.ensures.same told ∙ c.inputs.invariant.same told;
-  later = omega (arith, c.input_object.ensures.later, c.inputs.invariant.later);
+  same = λ told. c.input_object.ensures.only_reads.same told ∙ c.inputs.invariant.same told;
+  later = omega (arith, c.input_object.ensures.only_reads.later, c.inputs.invariant.later);
   left = λ told s at. rw c.in_ok-push.ensures.ok (AreLeft-more input_object c.args.inputs.now c.inputs.read c.inputs.path-index c.inputs-item.result s c.inputs-test.true c.inputs-item.is
       c.in_ok-input.input (c.in_ok-input.ensures.reads told s (at ∙ sym (c.inputs.invariant.same told))) (c.inputs.invariant.left told s at));
 }

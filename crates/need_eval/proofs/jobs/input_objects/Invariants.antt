@@ -1,5 +1,5 @@
 use Rattle.need_eval.specs.Evaluation.{input_object}
-use Rattle.need_eval.proofs.Inputs.{HasRead}
+use Rattle.need_eval.proofs.InputsAreRead.{HasRead}
 use Rattle.need_eval.proofs.jobs.input_objects.Given as goal
 
 abbrev pub invariant-inputs : goal.invariant-inputs

@@ -1,4 +1,4 @@
-use Rattle.need_eval.proofs.Holding.{values_of-hold}
+use Rattle.need_eval.proofs.HeldStays.{values_of-hold}
 use Rattle.need_eval.proofs.laws.held_stays.Goals as goal
 
 pub returns : goal.returns

@@ -1,4 +1,4 @@
-use Rattle.need_eval.proofs.ThunkJobs.{job-length}
+use Rattle.need_eval.proofs.JobsOfThunks.{job-length}
 use Rattle.need_eval.proofs.laws.job_lengths_are_known.Goals as goal
 
 pub returns : goal.returns

@@ -1,5 +1,5 @@
-use Rattle.need_eval.proofs.Outcomes.{list-answers}
-use Rattle.need_eval.proofs.Walks.{walk-asks_no_more}
+use Rattle.need_eval.proofs.ListsAnswer.{list-answers}
+use Rattle.need_eval.proofs.WalksGoOn.{walk-asks_no_more}
 use Rattle.need_eval.proofs.laws.lists_answer.Goals as goal
 
 pub returns-clause-answers : goal.returns-clause-answers

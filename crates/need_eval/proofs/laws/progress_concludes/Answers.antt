@@ -1,4 +1,4 @@
-use Rattle.need_eval.proofs.Progress.{concludes-values, concludes-reading, concludes-run, concludes-supplying}
+use Rattle.need_eval.proofs.ProgressConcludes.{concludes-values, concludes-reading, concludes-run, concludes-supplying}
 use Rattle.need_eval.proofs.laws.progress_concludes.Goals as goal
 
 pub returns-clause-values : goal.returns-clause-values

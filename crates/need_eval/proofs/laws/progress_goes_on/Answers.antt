@@ -1,4 +1,4 @@
-use Rattle.need_eval.proofs.Progress.{progress-begins, progress-goes_on, progress-is_supplied}
+use Rattle.need_eval.proofs.ProgressConcludes.{progress-begins, progress-goes_on, progress-is_supplied}
 use Rattle.need_eval.proofs.laws.progress_goes_on.Goals as goal
 
 pub returns-clause-begins : goal.returns-clause-begins

@@ -1,4 +1,4 @@
-use Rattle.need_eval.proofs.Counting.{steps-grow, steps-within}
+use Rattle.need_eval.proofs.StepsAreWithin.{steps-grow, steps-within}
 use Rattle.need_eval.proofs.laws.steps_are_within.Goals as goal
 
 pub returns-clause-budget : goal.returns-clause-budget

@@ -1,4 +1,4 @@
-use Rattle.need_eval.proofs.Fuel.{value_of-is}
+use Rattle.need_eval.proofs.ValuesAreByNeed.{value_of-is}
 use Rattle.need_eval.proofs.laws.values_are_by_need.Goals as goal
 
 pub returns : goal.returns

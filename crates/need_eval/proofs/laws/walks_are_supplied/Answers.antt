@@ -1,4 +1,4 @@
-use Rattle.need_eval.proofs.Walks.{is_supplied}
+use Rattle.need_eval.proofs.WalksGoOn.{is_supplied}
 use Rattle.need_eval.proofs.laws.walks_are_supplied.Goals as goal
 
 pub returns : goal.returns

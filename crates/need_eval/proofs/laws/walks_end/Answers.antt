@@ -1,4 +1,4 @@
-use Rattle.need_eval.proofs.Walks.{ends, stops, stops_supplying}
+use Rattle.need_eval.proofs.WalksGoOn.{ends, stops, stops_supplying}
 use Rattle.need_eval.proofs.laws.walks_end.Goals as goal
 
 pub returns-clause-values : goal.returns-clause-values

@@ -1,5 +1,5 @@
 use Rattle.std.proofs.lemmas.Result.{err_from_is_err_and}
-use Rattle.need_eval.proofs.ReadOnly.{thunk_at_stops}
+use Rattle.need_eval.proofs.ReadingStops.{thunk_at_stops}
 use Rattle.need_eval.proofs.reading.thunk_at.Goals as goal
 
 pub returns-in_err-bytes-clause-reads : goal.returns-in_err-bytes-clause-reads

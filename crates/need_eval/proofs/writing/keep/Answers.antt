@@ -1,4 +1,4 @@
-use Rattle.need_eval.proofs.StoreOne.{kept_puts, kept_stops, kept_cause}
+use Rattle.need_eval.proofs.ObjectIsStored.{kept_puts, kept_stops, kept_cause}
 use Rattle.need_eval.proofs.writing.keep.Goals as goal
 
 pub returns-in-Ok-clause-puts : goal.returns-in-Ok-clause-puts
@@ -11,4 +11,7 @@ returns-in-Err-clause-puts g c = λ told.
 
 pub returns-in-Err-clause-cause : goal.returns-in-Err-clause-cause
 returns-in-Err-clause-cause g c =
-    rw c.store_fault.ensures (kept_cause c.args.bytes.now c.args.retries (g.K.Keeper.faults c.args.keeper.now) (g.K.Keeper.faults c.store.new.keeper) c.in-Err.fault c.in-Err.ensures.cause c.in-Err.ensures.clash)
+    record {
+      later = c.store.ensures.later;
+      cause = rw c.store_fault.ensures (kept_cause c.args.bytes.now c.args.retries (g.K.Keeper.faults c.args.keeper.now) (g.K.Keeper.faults c.store.new.keeper) c.in-Err.fault c.in-Err.ensures.cause c.in-Err.ensures.clash);
+    }

@@ -1,7 +1,7 @@
 use Rattle.std.proofs.Common.{arith, ◌+◌, ◌++◌, ◌∷◌, [], ap, ◌∙◌, length}
 use Rattle.std.proofs.lemmas.List.{length_push}
 use Rattle.std.proofs.lemmas.Result.{err_from_is_err_and}
-use Rattle.need_eval.proofs.Outputs.{ArePut-more, ArePut-stop, ArePut-prefix, ArePut-end}
+use Rattle.need_eval.proofs.OutputsAreWritten.{ArePut-more, ArePut-stop, ArePut-prefix, ArePut-end}
 use Rattle.need_eval.proofs.writing.keep_all.Goals as goal
 
 pub returns-in_err-name-clause-puts : goal.returns-in_err-name-clause-puts
@@ -19,7 +19,7 @@ returns-in_err-push-clause-puts g c = λ told.
 
 pub outputs-preserved : goal.outputs-preserved
 outputs-preserved g c = record {
-  later = omega (arith, c.keep.ensures.later, c.outputs.invariant.later);
+  later = omega (arith, c.keep.ensures.cause.later, c.outputs.invariant.later);
   number = ap length c.in_ok-push.ensures.ok ∙ length_push c.outputs.names c.in_ok-name.name ∙ ap (λ n. n + 1) c.outputs.invariant.number;
   stored = λ told.
       let puts = rw c.as_slice.ensures at (c.in_ok-name.ensures.puts told) in

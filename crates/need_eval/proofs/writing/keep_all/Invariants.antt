@@ -1,4 +1,4 @@
-use Rattle.need_eval.proofs.Outputs.{HasPutSome}
+use Rattle.need_eval.proofs.OutputsAreWritten.{HasPutSome}
 use Rattle.need_eval.proofs.writing.keep_all.Given as goal
 
 abbrev pub invariant-outputs : goal.invariant-outputs

@@ -1,5 +1,5 @@
 use Rattle.std.proofs.lemmas.Result.{err_from_is_err_and}
-use Rattle.need_eval.proofs.Outputs.{finished-stops, finished-puts, finished-may}
+use Rattle.need_eval.proofs.OutputsAreWritten.{finished-stops, finished-puts, finished-may}
 use Rattle.need_eval.proofs.writing.keep_outcome.Goals as goal
 
 pub returns-in_err-outputs-clause-puts : goal.returns-in_err-outputs-clause-puts

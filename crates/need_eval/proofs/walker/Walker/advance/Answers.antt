@@ -1,9 +1,10 @@
-use Rattle.std.proofs.lemmas.Result.{err_from_is_err_and}
-use Rattle.need_eval.proofs.Advancing.{goes-stops}
 use Rattle.need_eval.proofs.walker.Walker.advance.Goals as goal
 
-pub returns-in_err-walked-clause-walks : goal.returns-in_err-walked-clause-walks
-returns-in_err-walked-clause-walks g c = λ told.
-    let p = err_from_is_err_and c.from_residual.result c.from_residual.ensures.1 in
-    rw (p.1, p.2) (goes-stops c.args.self.now c.turns.self (g.K.Keeper.store c.args.keeper.now) (g.K.Keeper.store c.turns.keeper) c.in_err-walked.field-0.0
-    (c.turns.invariant.same told) (c.turns.invariant.goes told) (c.in_err-walked.ensures.turns told))
+pub returns-in-Ok-AtEnd-clause-walks : goal.returns-in-Ok-AtEnd-clause-walks
+returns-in-Ok-AtEnd-clause-walks g c = λ told. rw c.in-Ok-AtEnd.field-0-is at (c.in-Ok-AtEnd.ensures.walks told)
+
+pub returns-in-Ok-AtJob-clause-walks : goal.returns-in-Ok-AtJob-clause-walks
+returns-in-Ok-AtJob-clause-walks g c = λ told.
+    let waits = rw c.in-Ok-AtJob.field-0-is at (c.in-Ok-AtJob.ensures.walks told) in
+    let stands = waits.1 in
+    (waits.0, record { inner = stands.inner; outer = stands.outer; frames = stands.frames; no_rest = stands.no_rest; small = stands.small; no_hit = stands.no_hit; text = stands.text; job = stands.job })

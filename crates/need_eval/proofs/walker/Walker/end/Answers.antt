@@ -1,5 +1,5 @@
 use Rattle.std.proofs.Common.{refl}
-use Rattle.need_eval.proofs.ComingOut.{ends}
+use Rattle.need_eval.proofs.ThunkIsLeft.{ends}
 use Rattle.need_eval.proofs.walker.Walker.end.Goals as goal
 
 pub returns-clause-turns : goal.returns-clause-turns

@@ -1,8 +1,8 @@
 use Rattle.std.proofs.Common.{refl, ap, ◌∙◌, ◌∷◌, drop, add-one}
 use Rattle.std.proofs.lemmas.Result.{err_from_is_err_and}
 use Rattle.need_eval.specs.declared.frame.Frame.{Frame}
-use Rattle.need_eval.proofs.Sound.{sound-enter}
-use Rattle.need_eval.proofs.Onward.{here, onward-enter, onward-thunk-stops, onward-entry-stops}
+use Rattle.need_eval.proofs.WalkerStaysSound.{sound-enter}
+use Rattle.need_eval.proofs.TurnsGoOn.{here, onward-enter, onward-thunk-stops, onward-entry-stops}
 use Rattle.thunk_codec.specs.declared.reference.Ref.TheVariants.{Out}
 use Rattle.need_eval.proofs.walker.Walker.enter.Goals as goal
 
@@ -21,10 +21,14 @@ returns-in_err-check_entry-clause-turns g c = λ told.
     (c.in_ok-thunk.ensures.reads told (here c.args.self.now store answer writes asked) refl)
     (c.in_err-check_entry.ensures.reads (here c.args.self.now store answer writes asked) refl))
 
-pub returns-in_err-check_entry-clause-cause : goal.returns-in_err-check_entry-clause-cause
-returns-in_err-check_entry-clause-cause g c =
+pub returns-in_err-check_entry-clause-only_reads : goal.returns-in_err-check_entry-clause-only_reads
+returns-in_err-check_entry-clause-only_reads g c =
     let p = err_from_is_err_and c.from_residual-in_err-check_entry.result c.from_residual-in_err-check_entry.ensures.1 in
-    rw (p.1, p.2) (c.in_err-check_entry.ensures.cause c.args.self.now.retries (g.K.Keeper.faults c.args.keeper.now) (g.K.Keeper.faults c.thunk_at.new.keeper))
+    record {
+      same = c.thunk_at.ensures.only_reads.same;
+      later = c.thunk_at.ensures.only_reads.later;
+      cause = rw (p.1, p.2) (c.in_err-check_entry.ensures.cause c.args.self.now.retries (g.K.Keeper.faults c.args.keeper.now) (g.K.Keeper.faults c.thunk_at.new.keeper));
+    }
 
 pub invariant_of-self-2-clause-sound : goal.invariant_of-self-2-clause-sound
 invariant_of-self-2-clause-sound g c =

@@ -1,20 +1,20 @@
 use Rattle.std.proofs.Common.{◌≡◌, ap, subst, ◌∙◌}
 use Rattle.std.proofs.lemmas.Result.{err_from_is_err_and}
 use Rattle.object_name.specs.Name.{ObjectName, name_of}
+use Rattle.object_name.proofs.PublicLaws.{eq_by_cmp-name}
 use Rattle.need_eval.specs.Eval.{State}
 use Rattle.need_eval.specs.Evaluation.{finished}
 use Rattle.need_eval.specs.WritePrefix.{Stops}
-use Rattle.need_eval.specs.Putting.{Puts}
-use Rattle.need_eval.proofs.Finishing.{whole, same-name, supplies-nothing, supplies-stops, supplies-prefix, supplied}
+use Rattle.need_eval.specs.WriteContracts.{Puts}
+use Rattle.need_eval.proofs.OutcomeIsSupplied.{whole, same-name, supplies-stops, supplies-prefix, supplied}
+use Rattle.need_eval.proofs.WalkerStaysSound.{inside-entered, inside-gathered}
 use Rattle.need_eval.proofs.walker.Walker.finish.Goals as goal
 
-pub returns-in_default-clause-supplies : goal.returns-in_default-clause-supplies
-returns-in_default-clause-supplies g c = λ told stands answer writes asked answers.
-    supplies-nothing c.args.self.now (g.K.Keeper.store c.args.keeper.now) answer writes asked
+pub leave-requires-clause-inside : goal.leave-requires-clause-inside
+leave-requires-clause-inside g c = inside-entered c.args.self.now.frames.items c.args.self.now.level.rest.items c.requires.inside
 
-pub returns-in_default-note_name-clause-supplies : goal.returns-in_default-note_name-clause-supplies
-returns-in_default-note_name-clause-supplies g c = λ told stands answer writes asked answers.
-    supplies-nothing c.args.self.now (g.K.Keeper.store c.args.keeper.now) answer writes asked
+pub leave-requires-clause-gathered : goal.leave-requires-clause-gathered
+leave-requires-clause-gathered g c = inside-gathered c.args.self.now.frames.items c.args.self.now.level.rest.items c.requires.inside
 
 pub returns-in_err-outputs-clause-supplies : goal.returns-in_err-outputs-clause-supplies
 returns-in_err-outputs-clause-supplies g c = λ told stands.
@@ -22,12 +22,12 @@ returns-in_err-outputs-clause-supplies g c = λ told stands.
     let w = c.args.self.now in
     let store = g.K.Keeper.store c.args.keeper.now in
     let now = g.K.Keeper.store c.keep_outcome.new.keeper in
-    let t = whole w store c.args.prepared.now c.args.outcome.now stands in
+    let t = whole w store c.args.waiting.now.prepared c.args.outcome.now stands in
     rw (p.1, p.2) (λ answer writes asked answers.
-    supplies-stops w store c.args.prepared.now c.args.outcome.now stands answer writes asked answers now c.in_err-outputs.field-0.0
+    supplies-stops w store c.args.waiting.now.prepared c.args.outcome.now stands answer writes asked answers now c.in_err-outputs.field-0.0
     (subst (λ (name : ObjectName). (s : State) → s.store ≡ store → Stops s (finished name t c.args.outcome.now s) now c.in_err-outputs.field-0.0)
-    (same-name w store c.args.prepared.now c.args.outcome.now stands c.in-Some.name c.in-Some.ensures)
-    (c.in_err-outputs.ensures.puts told t (c.in-Some-note_name.ensures.named ∙ ap name_of stands.text))))
+    (same-name w store c.args.waiting.now.prepared c.args.outcome.now stands c.innermost_name-name.result c.innermost_name-name.ensures)
+    (c.in_err-outputs.ensures.puts told t ((eq_by_cmp-name c.args.waiting.now.note_name (name_of c.args.waiting.now.prepared.text)).0 c.args.waiting.now.named ∙ ap name_of stands.text))))
 
 pub returns-in_err-leave-clause-supplies : goal.returns-in_err-leave-clause-supplies
 returns-in_err-leave-clause-supplies g c = λ told stands.
@@ -35,21 +35,21 @@ returns-in_err-leave-clause-supplies g c = λ told stands.
     let w = c.args.self.now in
     let store = g.K.Keeper.store c.args.keeper.now in
     let now = g.K.Keeper.store c.keep_outcome.new.keeper in
-    let t = whole w store c.args.prepared.now c.args.outcome.now stands in
+    let t = whole w store c.args.waiting.now.prepared c.args.outcome.now stands in
     rw (p.1, p.2) (λ answer writes asked answers.
-    supplies-prefix w store c.args.prepared.now c.args.outcome.now stands answer writes asked answers c.in_ok-outputs.outputs now
+    supplies-prefix w store c.args.waiting.now.prepared c.args.outcome.now stands answer writes asked answers c.in_ok-outputs.outputs now
     (subst (λ (name : ObjectName). Puts (finished name t c.args.outcome.now) c.in_ok-outputs.outputs store now)
-    (same-name w store c.args.prepared.now c.args.outcome.now stands c.in-Some.name c.in-Some.ensures)
-    (c.in_ok-outputs.ensures.puts told t (c.in-Some-note_name.ensures.named ∙ ap name_of stands.text))))
+    (same-name w store c.args.waiting.now.prepared c.args.outcome.now stands c.innermost_name-name.result c.innermost_name-name.ensures)
+    (c.in_ok-outputs.ensures.puts told t ((eq_by_cmp-name c.args.waiting.now.note_name (name_of c.args.waiting.now.prepared.text)).0 c.args.waiting.now.named ∙ ap name_of stands.text))))
 
 pub returns-clause-supplies : goal.returns-clause-supplies
 returns-clause-supplies g c = λ told stands.
     let w = c.args.self.now in
     let store = g.K.Keeper.store c.args.keeper.now in
     let now = g.K.Keeper.store c.keep_outcome.new.keeper in
-    let t = whole w store c.args.prepared.now c.args.outcome.now stands in
-    supplied w store c.args.prepared.now c.args.outcome.now stands c.leave.new.self c.in_ok-outputs.outputs now
+    let t = whole w store c.args.waiting.now.prepared c.args.outcome.now stands in
+    supplied w store c.args.waiting.now.prepared c.args.outcome.now stands c.leave.new.self c.in_ok-outputs.outputs now
     (subst (λ (name : ObjectName). Puts (finished name t c.args.outcome.now) c.in_ok-outputs.outputs store now)
-    (same-name w store c.args.prepared.now c.args.outcome.now stands c.in-Some.name c.in-Some.ensures)
-    (c.in_ok-outputs.ensures.puts told t (c.in-Some-note_name.ensures.named ∙ ap name_of stands.text)))
-    c.leave.ensures.setup.budget c.in_ok-leave.ensures.leaves
+    (same-name w store c.args.waiting.now.prepared c.args.outcome.now stands c.innermost_name-name.result c.innermost_name-name.ensures)
+    (c.in_ok-outputs.ensures.puts told t ((eq_by_cmp-name c.args.waiting.now.note_name (name_of c.args.waiting.now.prepared.text)).0 c.args.waiting.now.named ∙ ap name_of stands.text)))
+    c.leave.ensures.in_turn.budget c.in_ok-leave.ensures.leaves

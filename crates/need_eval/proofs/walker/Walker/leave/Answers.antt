@@ -1,9 +1,9 @@
 use Rattle.std.proofs.Common.{◌≡◌, refl, sym, ap, subst, ◌∙◌, ◌∷◌, ◌++◌}
 use Rattle.std.specs.Prelude.{IsTrue, Some, option_to_list, if◌then◌else◌}
-use Rattle.need_eval.specs.Machine.{is_sound}
+use Rattle.need_eval.specs.WalkerInvariant.{is_sound}
 use Rattle.need_eval.specs.Walking.{reduced_at}
 use Rattle.need_eval.proofs.NameEquality.{equality-ties}
-use Rattle.need_eval.proofs.Sound.{sound-leave}
+use Rattle.need_eval.proofs.WalkerStaysSound.{sound-leave}
 use Rattle.need_eval.proofs.walker.Walker.leave.Goals as goal
 
 pub invariant_of-self-2-clause-sound : goal.invariant_of-self-2-clause-sound

@@ -1,4 +1,4 @@
-use Rattle.need_eval.proofs.Sound.{sound-fresh}
+use Rattle.need_eval.proofs.WalkerStaysSound.{sound-fresh}
 use Rattle.need_eval.proofs.walker.Walker.new.Goals as goal
 
 pub invariant_of-result-clause-sound : goal.invariant_of-result-clause-sound

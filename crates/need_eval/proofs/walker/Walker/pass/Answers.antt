@@ -1,7 +1,7 @@
 use Rattle.std.proofs.Common.{arith, add-one}
 use Rattle.need_eval.specs.declared.fault.Refusal.TheVariants.{Spent}
 use Rattle.need_eval.specs.declared.fault.EvalFault.TheVariants.{Refused}
-use Rattle.need_eval.proofs.Onward.{here, not-counted, onward-pass, onward-spent}
+use Rattle.need_eval.proofs.TurnsGoOn.{here, not-counted, onward-pass, onward-spent}
 use Rattle.need_eval.proofs.walker.Walker.pass.Goals as goal
 
 pub returns-then-self-clause-turns : goal.returns-then-self-clause-turns

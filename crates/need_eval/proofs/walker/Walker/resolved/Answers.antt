@@ -1,6 +1,6 @@
 use Rattle.std.proofs.Common.{rules, drop}
-use Rattle.need_eval.proofs.Sound.{sound-kinds}
-use Rattle.need_eval.proofs.ComingOut.{first-of}
+use Rattle.need_eval.proofs.WalkerStaysSound.{sound-kinds}
+use Rattle.need_eval.proofs.ThunkIsLeft.{first-of}
 use Rattle.need_eval.proofs.walker.Walker.resolved.Goals as goal
 
 pub resolve-requires-clause-kinds : goal.resolve-requires-clause-kinds

@@ -1,5 +1,5 @@
 use Rattle.std.proofs.Common.{sym, ◌∙◌}
-use Rattle.need_eval.proofs.Onward.{onward-known}
+use Rattle.need_eval.proofs.TurnsGoOn.{onward-known}
 use Rattle.need_eval.proofs.walker.Walker.take_known.Goals as goal
 
 pub returns-in_ok-gather-in-Value-clause-turns : goal.returns-in_ok-gather-in-Value-clause-turns

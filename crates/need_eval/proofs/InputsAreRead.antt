@@ -1,0 +1,49 @@
+-- Going through a list by a piece that only reads.
+use Rattle.std.proofs.Common.{◌≡◌, ◌≤◌, ◌<◌, ◌+◌, ℕ, suc, List, [], ◌∷◌, ◌++◌, length, drop, get_or, sym, ap, subst, ◌∙◌, add-one}
+use Rattle.std.proofs.Math.Seq.{drop-cons, drop-length}
+use Rattle.blob_store.specs.Store.{Store}
+use Rattle.need_eval.specs.declared.fault.EvalFault.{EvalFault}
+use Rattle.need_eval.specs.Eval.{State, Ended, Got, Eval, ◌>>=◌, give, each}
+use Rattle.need_eval.specs.StepContracts.{StopsReading}
+use Rattle.need_eval.proofs.EachGoesOn.{IsLeft, IsLeft-start, IsLeft-more, IsLeft-end}
+use Rattle.need_eval.proofs.ReadingStops.{StopsReading-go_on}
+
+-- the first of some are read, and what is left is to read the others
+abbrev pub AreLeft : {A B : Type 0} → (A → Eval B) → List A → List B → ℕ → State → Type 0
+AreLeft f xs read i s = IsLeft f (each f xs s) read (drop i xs) s
+
+-- the keeper has what it had, and the first of some are read
+pub record HasRead {K A B : Type 0} (tells : Type 0) (store : K → Store) (faults : K → ℕ) (f : A → Eval B) (xs : List A) (old now : K) (i : ℕ) (read : List B) : Type 0 where
+  pub same : tells → store now ≡ store old
+  pub later : faults old ≤ faults now
+  pub left : tells → (s : State) → s.store ≡ store old → AreLeft f xs read i s
+
+module _ {A B : Type 0} (f : A → Eval B) (xs : List A) where
+  pub AreLeft-start : (s : State) → AreLeft f xs [] 0 s
+  AreLeft-start s = IsLeft-start f xs s
+
+  module _ (read : List B) (i : ℕ) (x : A) (s : State) (within : i < length xs) (is : x ≡ get_or xs i x) where
+    -- the next stands first in what is left
+    AreLeft-next : AreLeft f xs read i s → IsLeft f (each f xs s) read (x ∷ drop (suc i) xs) s
+    AreLeft-next left =
+        subst (λ (xs' : List A). IsLeft f (each f xs s) read xs' s)
+        (drop-cons xs i x within ∙ ap (λ (x : A). x ∷ drop (suc i) xs) (sym is)) left
+
+    -- one more is read
+    pub AreLeft-more : (y : B) → f x s ≡ Got y s → AreLeft f xs read i s → AreLeft f xs (read ++ y ∷ []) (i + 1) s
+    AreLeft-more y one left =
+        subst (λ (j : ℕ). IsLeft f (each f xs s) (read ++ y ∷ []) (drop j xs) s) (sym (add-one i))
+        (IsLeft-more f (each f xs s) read x (drop (suc i) xs) y s s one (AreLeft-next left))
+
+    -- the next one stops the whole
+    pub AreLeft-stop : (fault : EvalFault) → StopsReading (f x s) s.store fault → AreLeft f xs read i s → StopsReading (each f xs s) s.store fault
+    AreLeft-stop fault stops left =
+        subst (λ (e : Ended (List B)). StopsReading e s.store fault) (sym (AreLeft-next left))
+        (StopsReading-go_on (λ ys. give (read ++ ys)) (each f (x ∷ drop (suc i) xs) s) s.store fault
+        (StopsReading-go_on (λ y. each f (drop (suc i) xs) >>= λ ys. give (y ∷ ys)) (f x s) s.store fault stops))
+
+  -- all are read
+  pub AreLeft-end : (read : List B) (i : ℕ) (s : State) → i ≡ length xs → AreLeft f xs read i s → each f xs s ≡ Got read s
+  AreLeft-end read i s all left =
+      IsLeft-end f (each f xs s) read s
+      (subst (λ (xs' : List A). IsLeft f (each f xs s) read xs' s) (ap (λ j. drop j xs) all ∙ drop-length xs) left)
