@@ -7,7 +7,7 @@ use Rattle.std.proofs.lemmas.List.Sums.{sum_by-cons}
 use Rattle.std.proofs.lemmas.Grind.{flat_map-append}
 use Rattle.std.proofs.lemmas.Bool.{and_parts, ltb-true}
 use Rattle.std.proofs.lemmas.Option.{same_Some}
-use Rattle.thunk_codec.specs.Job.{count}
+use Rattle.thunk_codec.specs.Job.{encoded_count}
 use Rattle.text_lines.specs.Maybe.{◌>>=◌, bind_some, test_some}
 use Rattle.tool_bin.specs.Archive.{ArchiveMember, archive_mark, archive_text, header, is_member, is_member_name, member_text, padding, part, size_limit, table_name}
 use Rattle.tool_bin.specs.ArchiveReading.{member_at}
@@ -89,9 +89,9 @@ offsets_in_order offset (first ∷ before) member after =
 
 -- ---- what a table says
 
-counts_len : (offsets : List ℕ) → length (flat_map count offsets) ≡ 4 * length offsets
+counts_len : (offsets : List ℕ) → length (flat_map encoded_count offsets) ≡ 4 * length offsets
 counts_len [] = refl
-counts_len (offset ∷ offsets) = omega (arith, length-append (count offset) (flat_map count offsets), counts_len offsets)
+counts_len (offset ∷ offsets) = omega (arith, length-append (encoded_count offset) (flat_map encoded_count offsets), counts_len offsets)
 
 sized_by : (test : Bool) (size found : ℕ) → cond test (Some size) None ≡ Some found → size ≡ found
 sized_by true size found e = same_Some size found e
@@ -101,25 +101,25 @@ sized : (size found : ℕ) → size_within size ≡ Some found → size ≡ foun
 sized size found e = sized_by (ltb size size_limit) size found e
 
 said_by : (members : List ArchiveMember) (table : List ℕ) (size : ℕ) → table_size (length (flat_map symbols_of members)) (length (flat_map zero_terminated (flat_map symbols_of members))) ≡ size
-    → table ≡ count (length (flat_map symbols_of members)) ++ (flat_map count (offsets_from (first_offset size) members) ++ flat_map zero_terminated (flat_map symbols_of members))
-    → table ≡ count (length (flat_map symbols_of members)) ++ (flat_map count (offsets_from (first_offset (length table)) members) ++ flat_map zero_terminated (flat_map symbols_of members))
+    → table ≡ encoded_count (length (flat_map symbols_of members)) ++ (flat_map encoded_count (offsets_from (first_offset size) members) ++ flat_map zero_terminated (flat_map symbols_of members))
+    → table ≡ encoded_count (length (flat_map symbols_of members)) ++ (flat_map encoded_count (offsets_from (first_offset (length table)) members) ++ flat_map zero_terminated (flat_map symbols_of members))
 said_by members table size is said =
     let symbols = flat_map symbols_of members in
-    let offsets = flat_map count (offsets_from (first_offset size) members) in
-    let len : size ≡ length table = omega (arith, is, ap (λ (v : List ℕ). length v) said, length-append (count (length symbols)) (offsets ++ flat_map zero_terminated symbols), length-append offsets (flat_map zero_terminated symbols), counts_len (offsets_from (first_offset size) members), length-offsets_from (first_offset size) members) in
-    said ∙ ap (λ (n : ℕ). count (length symbols) ++ (flat_map count (offsets_from (first_offset n) members) ++ flat_map zero_terminated symbols)) len
+    let offsets = flat_map encoded_count (offsets_from (first_offset size) members) in
+    let len : size ≡ length table = omega (arith, is, ap (λ (v : List ℕ). length v) said, length-append (encoded_count (length symbols)) (offsets ++ flat_map zero_terminated symbols), length-append offsets (flat_map zero_terminated symbols), counts_len (offsets_from (first_offset size) members), length-offsets_from (first_offset size) members) in
+    said ∙ ap (λ (n : ℕ). encoded_count (length symbols) ++ (flat_map encoded_count (offsets_from (first_offset n) members) ++ flat_map zero_terminated symbols)) len
 
 pub table_says : (table : List ℕ) (members : List ArchiveMember) → table_of members ≡ Some table
-    → table ≡ count (length (flat_map symbols_of members)) ++ (flat_map count (offsets_from (first_offset (length table)) members) ++ flat_map zero_terminated (flat_map symbols_of members))
+    → table ≡ encoded_count (length (flat_map symbols_of members)) ++ (flat_map encoded_count (offsets_from (first_offset (length table)) members) ++ flat_map zero_terminated (flat_map symbols_of members))
 unfolding table_of
 table_says table members e =
     let symbols = flat_map symbols_of members in
     let names = flat_map zero_terminated symbols in
     let sizes = bind_some (size_within (table_size (length symbols) (length names))) (λ size. table_with (length symbols) (offsets_from (first_offset size) members) names) table e in
     let offsets = offsets_from (first_offset sizes.0) members in
-    let counted = test_some (fits_word (length symbols)) (table_words offsets >>= λ words. Some (count (length symbols) ++ (words ++ names))) table sizes.2 in
-    let words = bind_some (table_words offsets) (λ words. Some (count (length symbols) ++ (words ++ names))) table counted.1 in
-    let listed = test_some (list_all fits_word offsets) (Some (flat_map count offsets)) words.0 words.1 in
-    let said : table ≡ count (length symbols) ++ (flat_map count offsets ++ names)
-    = sym (ap (λ (v : List ℕ). count (length symbols) ++ (v ++ names)) (same_Some (flat_map count offsets) words.0 listed.1) ∙ same_Some (count (length symbols) ++ (words.0 ++ names)) table words.2) in
+    let counted = test_some (fits_word (length symbols)) (table_words offsets >>= λ words. Some (encoded_count (length symbols) ++ (words ++ names))) table sizes.2 in
+    let words = bind_some (table_words offsets) (λ words. Some (encoded_count (length symbols) ++ (words ++ names))) table counted.1 in
+    let listed = test_some (list_all fits_word offsets) (Some (flat_map encoded_count offsets)) words.0 words.1 in
+    let said : table ≡ encoded_count (length symbols) ++ (flat_map encoded_count offsets ++ names)
+    = sym (ap (λ (v : List ℕ). encoded_count (length symbols) ++ (v ++ names)) (same_Some (flat_map encoded_count offsets) words.0 listed.1) ∙ same_Some (encoded_count (length symbols) ++ (words.0 ++ names)) table words.2) in
     said_by members table sizes.0 (sized (table_size (length symbols) (length names)) sizes.0 sizes.1) said

@@ -1,7 +1,7 @@
 -- The table of symbols of an archive in the GNU form.
 use Rattle.std.specs.Prelude.{ℕ, List, [], ◌∷◌, ◌++◌, ◌+◌, ◌*◌, ◌-◌, ◌%◌, ◌^◌, min, nat_lt, length, replicate, sum_by, unwrap_or, Bool, Option, Some, None, if◌then◌else◌}
 use Rattle.std.specs.List.{list_all, flat_map}
-use Rattle.thunk_codec.specs.Job.{count}
+use Rattle.thunk_codec.specs.Job.{encoded_count}
 use Rattle.text_lines.specs.Maybe.{◌>>=◌, ◌>>◌, check}
 use Rattle.tool_bin.specs.Archive.{ArchiveMember, archive_mark, size_limit}
 use Rattle.tool_bin.specs.ObjectReading.{symbol_names}
@@ -48,14 +48,14 @@ table_word n = if fits_word n then Some n else None
 abbrev pub table_words : List ℕ → Option (List ℕ)
 table_words offsets = do
   check (list_all fits_word offsets)
-  Some (flat_map count offsets)
+  Some (flat_map encoded_count offsets)
 
 -- the table of so many symbols with these offsets and these names with zero bytes, if it can hold them
 abbrev pub table_with : ℕ → List ℕ → List ℕ → Option (List ℕ)
 table_with symbols offsets names = do
   check (fits_word symbols)
   words ← table_words offsets
-  Some (count symbols ++ (words ++ names))
+  Some (encoded_count symbols ++ (words ++ names))
 
 -- the size of a table, where a part may have it
 abbrev pub size_within : ℕ → Option ℕ

@@ -2,7 +2,7 @@
 
 ghost use Rattle.std.specs.Prelude.{◌≡◌, ◌+◌, ◌<◌, ◌∷◌, ◌++◌, ℕ, List, Option, Some, true, drop, flat_map, length, replicate, is_some, IfSome};
 ghost use Rattle.std.specs.List.{list_all};
-ghost use Rattle.thunk_codec.specs.Job.{count};
+ghost use Rattle.thunk_codec.specs.Job.{encoded_count};
 ghost use Rattle.tool_bin.specs.Archive.{ArchiveMember, archive_text, is_member, member_text, size_limit};
 ghost use Rattle.tool_bin.specs.ArchiveReading.{archive_of, member_at};
 ghost use Rattle.tool_bin.specs.SymbolTable.{zero_terminated, first_offset, part_len, offset_after, offsets_from, symbols_of, table_of};
@@ -17,8 +17,8 @@ pub fn archives_read_back()
 /// the header of the member stands there.
 pub fn tables_say_offsets()
     ensures says { (table : List ℕ) (members : List ArchiveMember) → table_of members ≡ Some table
-        → table ≡ count (length (flat_map symbols_of members))
-        ++ (flat_map count (offsets_from (first_offset (length table)) members) ++ flat_map zero_terminated (flat_map symbols_of members)) }
+        → table ≡ encoded_count (length (flat_map symbols_of members))
+        ++ (flat_map encoded_count (offsets_from (first_offset (length table)) members) ++ flat_map zero_terminated (flat_map symbols_of members)) }
     ensures offsets { (offset : ℕ) (before : List ArchiveMember) (member : ArchiveMember) (after : List ArchiveMember)
         → offsets_from offset (before ++ member ∷ after) ≡ offsets_from offset before
         ++ (replicate (length (symbols_of member)) (offset_after offset before)

@@ -1,7 +1,7 @@
 //! The table of symbols of an archive.
 
 ghost use Rattle.std.specs.Prelude.{◌≡◌, ◌+◌, ◌++◌, ◌∷◌, ◌^◌, [], flat_map, length, map, replicate, IfOk, OnOk};
-ghost use Rattle.thunk_codec.specs.Job.{count};
+ghost use Rattle.thunk_codec.specs.Job.{encoded_count};
 ghost use Rattle.tool_bin.specs.SymbolTable.{capped, zero_terminated, first_offset, part_len, offsets_from, size_within, symbols_of, table_of, table_size, table_with, table_word, table_words};
 
 use crate::archive::{Member, SIZE_LIMIT};
@@ -125,7 +125,7 @@ fn offset_words(alloc: Global, first: u64, offsets: &[u64]) -> Result<Option<Byt
 
 /// The count of the symbols, the offsets and the names, one after the other.
 fn joined(alloc: Global, symbols: u32, offsets: &Bytes, names: &Bytes) -> Result<Bytes, AllocError>
-    ensures { IfOk result (λ table. table ≡ count symbols ++ (offsets.now ++ names.now)) }
+    ensures { IfOk result (λ table. table ≡ encoded_count symbols ++ (offsets.now ++ names.now)) }
 {
     let mut table = Bytes::from_slice(alloc, &symbols.to_be_bytes())?;
     table.append(offsets.as_slice())?;
