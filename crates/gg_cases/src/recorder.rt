@@ -58,16 +58,6 @@ impl Recorder {
             calls,
         }
     }
-
-    fn record(&mut self, shelf: Shelf, name: &Name) -> Result<(), AllocError> {
-        let call = self.keeper.calls();
-        self.writes.push(Write {
-            shelf,
-            name: *name,
-            call,
-        })?;
-        Ok(())
-    }
 }
 
 impl Keeper for Recorder {
@@ -83,8 +73,8 @@ impl Keeper for Recorder {
 
     fn put(&mut self, name: &Name, bytes: &[u8]) -> Result<(), Trouble> {
         self.keeper.put(name, bytes)?;
-        self.record(Shelf::Objects, name)?;
-        Ok(())
+        let call = self.keeper.calls();
+        Ok(record(&mut self.writes, Shelf::Objects, name, call)?)
     }
 
     fn get_note(&mut self, alloc: Global, name: &Name) -> Result<Option<Bytes>, Trouble> {
@@ -93,7 +83,14 @@ impl Keeper for Recorder {
 
     fn put_note(&mut self, name: &Name, bytes: &[u8]) -> Result<(), Trouble> {
         self.keeper.put_note(name, bytes)?;
-        self.record(Shelf::Notes, name)?;
-        Ok(())
+        let call = self.keeper.calls();
+        Ok(record(&mut self.writes, Shelf::Notes, name, call)?)
     }
+}
+
+/// Adds a write.
+fn record(writes: &mut Vec<Write>, shelf: Shelf, name: &Name, call: u64) -> Result<(), AllocError> {
+    let name = *name;
+    writes.push(Write { shelf, name, call })?;
+    Ok(())
 }
