@@ -9,7 +9,7 @@ use crate::fetching::fetch;
 use crate::keeper::Keeper;
 use crate::retries::put_again;
 use object_name::{Bytes, Name, Trouble, name_of};
-use std::alloc::{AllocError, AllocFailed, Global};
+use std::alloc::{AllocError, Global};
 
 /// Why bytes were not stored.
 #[derive(Debug, Drop)]
@@ -30,14 +30,6 @@ impl From<AllocError> for StoreFault {
     ghost from_gives = { λ _ e. e ≡ Memory };
 
     fn from(_: AllocError) -> Self {
-        StoreFault::Memory
-    }
-}
-
-impl<T: Drop> From<AllocFailed<T>> for StoreFault {
-    ghost from_gives = { λ _ e. e ≡ Memory };
-
-    fn from(_: AllocFailed<T>) -> Self {
         StoreFault::Memory
     }
 }
