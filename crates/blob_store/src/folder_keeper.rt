@@ -4,7 +4,7 @@ ghost use Rattle.std.specs.Prelude.{◌≡◌, None, IfOk};
 
 use crate::keeper::Keeper;
 use folder_files::{FaultCount, path_in, read_file, replace_file};
-use object_name::{Bytes, MAX_SIZE, Name, Trouble};
+use object_name::{Bytes, MAX_SIZE, Name, SPELLING_LEN, Trouble};
 use std::alloc::{AllocError, Global};
 use std::io;
 use std::io::ErrorKind;
@@ -101,7 +101,7 @@ fn replace_named<R: Files>(
 
 /// The path of a name's file.
 fn path_of(alloc: Global, folder: &str, name: &Name) -> Result<String, AllocError> {
-    let mut spelled = [0u8; 52];
+    let mut spelled = [0u8; SPELLING_LEN];
     name.spell(&mut spelled);
     path_in(alloc, folder, &spelled)
 }

@@ -1,6 +1,6 @@
 //! Folders for tests, under the system's folder for temporary files.
 
-use object_name::{Bytes, name_of};
+use object_name::{Bytes, SPELLING_LEN, name_of};
 use std::alloc::Global;
 use std::test::Fail;
 use std::{env, io, process};
@@ -27,7 +27,7 @@ pub fn some(alloc: Global, bytes: &[u8]) -> Result<Option<Bytes>, Fail> {
 /// The path of the file of the object `abc` in the folder of a keeper.
 pub fn path_of_abc(alloc: Global, root: &str) -> Result<String, Fail> {
     let mut path = format!(in alloc; "{root}/objects/")?;
-    let mut spelled = [0u8; 52];
+    let mut spelled = [0u8; SPELLING_LEN];
     name_of(b"abc")?.spell(&mut spelled);
     for letter in spelled {
         path.push(char::from(letter))?;

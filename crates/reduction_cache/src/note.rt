@@ -8,22 +8,16 @@ ghost use Rattle.object_name.specs.declared.kind.Kind.TheVariants.{Thunk};
 ghost use Rattle.reduction_cache.specs.Note.{NoteOf, Note, name_line, note_text};
 ghost use Rattle.reduction_cache.specs.Reading.{name_at, names_at, note_of};
 
-use object_name::{Bytes, Kind, Many, Name};
+use object_name::{Bytes, Kind, MAX_OUTPUTS, Many, Name, SPELLING_LEN};
 use std::alloc::{AllocError, Global};
 use text_lines::strip_prefix;
-
-/// How many characters spell a name.
-const SPELLING: usize = 52;
-
-/// The most outputs of a thunk.
-const MOST_OUTPUTS: u32 = 64;
 
 /// Appends a name and a line feed.
 fn append_name(text: &mut Bytes, name: &Name) -> Result<(), AllocError>
     ensures line { OnOk result (text.new ≡ text.old ++ name_line name.now) }
     ensures name { OnOk result (IsName name.now) }
 {
-    let mut spelling = [0u8; SPELLING];
+    let mut spelling = [0u8; SPELLING_LEN];
     name.spell(&mut spelling);
     text.append(&spelling)?;
     text.append(b"\n")
@@ -60,10 +54,10 @@ pub fn encode_note(alloc: Global, resolved: &Name, outputs: &[Name]) -> Result<B
 fn name_at(bytes: &[u8]) -> Option<(Name, &[u8])>
     ensures { option_map (λ read. (read.0, read.1.now)) result ≡ name_at bytes.now }
 {
-    if bytes.len() < SPELLING {
+    if bytes.len() < SPELLING_LEN {
         return None;
     }
-    let (spelling, rest) = bytes.split_at(SPELLING);
+    let (spelling, rest) = bytes.split_at(SPELLING_LEN);
     let name = Name::read(spelling)?;
     let rest = strip_prefix(b"\n", rest)?;
     Some((name, rest))
@@ -75,7 +69,7 @@ fn names_at(alloc: Global, bytes: &[u8]) -> Result<Option<(Many<Name>, &[u8])>, 
 {
     let mut names = Many::new(alloc);
     let mut rest = bytes;
-    'names: for _ in 0..MOST_OUTPUTS {
+    'names: for _ in 0..MAX_OUTPUTS {
         if rest.starts_with(b"end\n") {
             return Ok(Some((names, rest)));
         }

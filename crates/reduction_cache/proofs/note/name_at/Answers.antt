@@ -1,5 +1,5 @@
 use Rattle.reduction_cache.proofs.Names.{name_short}
 use Rattle.reduction_cache.proofs.note.name_at.Goals as goal
 
-pub returns-then-bytes-lt-SPELLING : goal.returns-then-bytes-lt-SPELLING
-returns-then-bytes-lt-SPELLING c = name_short c.args.bytes.now c.if-bytes-lt-SPELLING.true
+pub returns-then-bytes-lt-SPELLING_LEN : goal.returns-then-bytes-lt-SPELLING_LEN
+returns-then-bytes-lt-SPELLING_LEN c = name_short c.args.bytes.now c.if-bytes-lt-SPELLING_LEN.true
