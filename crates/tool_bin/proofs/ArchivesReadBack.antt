@@ -8,7 +8,6 @@ use Rattle.std.proofs.lemmas.Bool.Decides.{Decides-eqb}
 use Rattle.std.proofs.lemmas.Slice.Eq.{ends_is}
 use Rattle.std.proofs.lemmas.Fmt.{length-decimal-le}
 use Rattle.text_lines.specs.Maybe.{◌>>=◌}
-use Rattle.text_lines.specs.Cuts.{strip_prefix}
 use Rattle.tool_bin.specs.Archive.{ArchiveMember, archive_mark, archive_text, field, header, header_end, is_member, is_member_name, is_name_byte, member_text, numbers, padding, part, size_limit, table_name}
 use Rattle.tool_bin.specs.ArchiveReading.{all_members, archive_of, begins_with_table, after_table, header_at, member_at, members_at, name_in, member_name_of, size_in, member_size_of}
 use Rattle.tool_bin.proofs.MembersReadInTurn.{going_shortens, one_member}

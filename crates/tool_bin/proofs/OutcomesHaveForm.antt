@@ -3,7 +3,6 @@ use Rattle.std.proofs.Common.{◌≡◌, ◌≤◌, ℕ, List, length, true, Opt
 use Rattle.std.specs.Prelude.{◌==◌, codes}
 use Rattle.std.proofs.lemmas.Bool.{and_parts, cond_both}
 use Rattle.thunk_codec.specs.declared.job.Job.{Job}
-use Rattle.thunk_codec.specs.declared.job.Outcome.{Outcome}
 use Rattle.thunk_codec.specs.declared.job.Outcome.TheVariants.{Failed}
 use Rattle.thunk_codec.specs.Job.{only_input}
 use Rattle.thunk_codec.specs.Outcome.{HasForm}
