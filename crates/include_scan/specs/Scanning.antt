@@ -1,5 +1,5 @@
 -- How the scanned files are found: file by file, in the order of the first visit, each file's include lines in order. The first
--- refusal that is visited is the answer.
+-- refusal that comes is the answer.
 use Rattle.std.specs.Prelude.{◌≡◌, ℕ, zero, suc, ◌+◌, List, [], ◌∷◌, ◌++◌, drop, length, nat_lt, true, Option, Some, None, Result, Ok, Err, if◌then◌else◌}
 use Rattle.std.specs.Option.{is_some}
 use Rattle.object_name.specs.Causes.{RoseBy}
