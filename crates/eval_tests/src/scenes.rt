@@ -131,7 +131,7 @@ impl Scene {
 
     /// A value, or an output of a thunk that was added before, which may not be there.
     fn reference(&mut self) -> Result<Ref, Fail> {
-        let index = self.dice.roll(20).saturating_sub(17) as u32;
+        let index = u32::try_from(self.dice.roll(20).saturating_sub(17)).unwrap_or(0);
         let thunk = self.dice.roll(self.names.len().saturating_add(3));
         match self.names.get(thunk) {
             Some(name) => Ok(Ref::Out(*name, index)),
