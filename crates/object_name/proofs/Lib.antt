@@ -7,4 +7,6 @@ pub mod StreamLemmas
 pub mod CallLemmas
 pub mod SpellingBytes
 pub mod TriesSoFar
+pub mod CountedTries
 pub mod PublicLaws
+pub mod BytesHaveNames

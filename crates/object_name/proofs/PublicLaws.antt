@@ -13,3 +13,7 @@ pub use Rattle.object_name.proofs.SpellingBytes.{spelling_without_feed}
 pub use Rattle.object_name.proofs.NumberLemmas.{number_of-decimal, decimal-number_of, decimal_digit_at, digits-decimal, digits_value-decimal, length-decimal-pos}
 -- what holds while a call that failed is tried again
 pub use Rattle.object_name.proofs.TriesSoFar.{HasTried, IsReading, IsWriting}
+-- bytes within the limit have a name
+pub use Rattle.object_name.proofs.BytesHaveNames.{is-name}
+-- calls that were tried again and failed so often: none, one after another, the last of some, and where more may be answered
+pub use Rattle.object_name.proofs.CountedTries.{HasCounted, tries-none, tries-trans, tries-last, tries-more}

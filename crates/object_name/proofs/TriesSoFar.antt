@@ -2,10 +2,11 @@
 use Rattle.std.proofs.Common.{◌≡◌, ◌≤◌, ◌+◌, ◌-◌, ◌^◌, ℕ}
 use Rattle.std.specs.Prelude.{min}
 
--- the count has risen with each try
+-- the count has risen with each try, by one
 pub record HasTried (before after tries : ℕ) : Type 0 where
   pub later : before ≤ after
   pub rose : min (before + tries) (2 ^ 64 - 1) ≤ after
+  pub most : after ≤ before + tries
 
 -- a call that reads is tried again: what is told is as it was
 pub record IsReading {K S : Type 0} (tells : Type 0) (told : K → S) (faults : K → ℕ) (old now : K) (tries : ℕ) : Type 0 where

@@ -8,7 +8,7 @@ ghost use Rattle.std.specs.Ordering.{as_partial_cmp};
 ghost use Rattle.object_name.specs.Name.{ObjectName, IsName, max_size, name_cmp, name_of, named_by, spelling};
 
 use crate::kind::{Kind, kind_of};
-use crate::spelling::{read_digest, read_size, spell_digest, spell_size};
+use crate::spelling::{is_digest, read_digest, read_size, spell_digest, spell_size};
 use sha2::{Digest, Sha256};
 use std::cmp::Ordering;
 use std::marker::Model;
@@ -96,9 +96,12 @@ pub fn name_of(bytes: &[u8]) -> Result<Name, TooLong>
 }
 
 impl Name {
+    /// The kind of the object.
     pub fn kind(&self) -> Kind
-        ensures { result ≡ self.now.kind }
+        ensures kind { result ≡ self.now.kind }
+        ensures name { IsName self.now }
     {
+        prove!(is_digest(&self.digest));
         self.kind
     }
 
@@ -136,6 +139,7 @@ impl Name {
         ensures spelled { into.new ≡ spelling self.now }
         ensures name { IsName self.now }
     {
+        prove!(is_digest(&self.digest));
         into[0] = self.kind.letter();
         spell_digest(&self.digest, &mut into[1..SIZE_AT]);
         spell_size(self.size, &mut into[SIZE_AT..]);

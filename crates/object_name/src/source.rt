@@ -4,6 +4,7 @@ ghost use Rattle.std.specs.Prelude.{◌≡◌, ◌≤◌, ◌<◌, ◌+◌, ℕ,
 ghost use Rattle.std.specs.Io.KnownBytes.{Consumes, Keeps, IsAtEnd};
 ghost use Rattle.object_name.specs.Causes.{HasCause, Rose};
 ghost use Rattle.object_name.specs.Calls.{risen};
+ghost use Rattle.object_name.specs.ReadEnd.{reading_faults};
 ghost use Rattle.object_name.specs.Streams.{LosesPrefix, LosesUpTo};
 
 use crate::bytes::Bytes;
@@ -89,6 +90,7 @@ pub fn read_all<S: Source>(alloc: Global, source: &mut S, limit: usize) -> Resul
     ensures prefix { LosesUpTo (S.left source.old) (S.left source.new) (limit + 1) }
     ensures failed { IsErrOf result ReadEnd.Failed → Rose (S.faults source.old) (S.faults source.new) }
     ensures later { S.faults source.old ≤ S.faults source.new }
+    ensures most { S.faults source.new ≤ S.faults source.old + reading_faults result }
     ensures reads { S.reads source.new ≤ S.reads source.old + limit + 2 }
 {
     let mut bytes = Bytes::new(alloc);

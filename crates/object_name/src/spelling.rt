@@ -1,6 +1,6 @@
 //! The parts of a name's spelling: the digest and the size.
 
-ghost use Rattle.std.specs.Prelude.{◌≡◌, ◌≤◌, ℕ, List, length, take, Some, IfSome};
+ghost use Rattle.std.specs.Prelude.{◌≡◌, ◌≤◌, ℕ, List, IsTrue, length, take, Some, IfSome};
 ghost use Rattle.std.specs.Int.{w32, to_be_bytes};
 ghost use Rattle.base64.specs.GeneralPurpose.{encode_of, IsBytes};
 ghost use Rattle.base64.specs.Engines.{url_safe_no_pad};
@@ -15,12 +15,19 @@ pub(crate) const DIGEST_TEXT: usize = 43;
 /// How many characters spell a size.
 pub(crate) const SIZE_TEXT: usize = 8;
 
+/// Whether a digest is 32 bytes, of which its type makes sure.
+pub(crate) fn is_digest(digest: &[u8; 32]) -> bool
+    ensures holds { IsTrue result }
+    ensures bytes { IsBytes digest.now }
+    ensures whole { length digest.now ≡ 32 }
+{
+    digest.as_slice().len() == 32
+}
+
 /// Writes a digest in the URL-safe alphabet, without padding.
 pub(crate) fn spell_digest(digest: &[u8; 32], into: &mut [u8])
     requires { length into.old ≡ DIGEST_TEXT }
-    ensures spelled { into.new ≡ encode_of url_safe_no_pad digest.now }
-    ensures bytes { IsBytes digest.now }
-    ensures whole { length digest.now ≡ 32 }
+    ensures { into.new ≡ encode_of url_safe_no_pad digest.now }
 {
     let _ = URL_SAFE_NO_PAD.encode_slice(digest, into);
 }

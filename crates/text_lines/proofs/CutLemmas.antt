@@ -1,13 +1,13 @@
 -- What a cut of a text says of the text, and which cuts there are.
-use Rattle.std.proofs.Common.{◌≡◌, ℕ, suc, ◌<◌, Bool, true, not, eqb, List, [], ◌∷◌, ◌++◌, length, take, drop, get_or, length-append, Option, Some, None, ◌-◌, ◌+◌, refl, sym, ap, subst, ◌∙◌, arith, inl, inr}
-use Rattle.std.specs.Prelude.{nat_eq, ◌==◌}
-use Rattle.std.specs.List.{list_all, starts_with, ends_with}
+use Rattle.std.proofs.Common.{◌≡◌, ℕ, suc, ◌<◌, true, not, eqb, List, [], ◌∷◌, ◌++◌, length, take, drop, get_or, length-append, Some, None, ◌-◌, ◌+◌, refl, sym, ap, subst, ◌∙◌, arith, inl, inr}
+use Rattle.std.specs.Prelude.{nat_eq}
+use Rattle.std.specs.List.{starts_with, ends_with}
 use Rattle.std.proofs.lemmas.Bool.{cases_Bool, and_parts, and_from, eqb-true, eq-eqb, not_from_false, ne_eqb, not-true}
 use Rattle.std.proofs.lemmas.Bool.Decides.{Decides-eqb}
 use Rattle.std.proofs.lemmas.List.{take_at, drop_at, take-append-drop, length-take, drop_more, get_or-take, take_rest}
 use Rattle.std.proofs.lemmas.Option.{same_Some}
 use Rattle.std.proofs.lemmas.Slice.Eq.{bytes_eq-Decides, starts_is, ends_is}
-use Rattle.text_lines.specs.Maybe.{◌>>=◌, bind_some, test_some}
+use Rattle.text_lines.specs.Maybe.{bind_some, test_some}
 use Rattle.text_lines.specs.Cuts.{strip_prefix, before_feed, has_no, with_byte, split_at_byte}
 
 -- ---- a prefix

@@ -1,12 +1,10 @@
 -- What is read from the prefix of a text stands there, and what stands there is read.
-use Rattle.std.proofs.Common.{◌≡◌, ℕ, suc, ◌^◌, ◌<◌, ◌≤◌, Bool, true, not, eqb, leb, List, [], ◌∷◌, ◌++◌, length, take, drop, get_or, length-append, append_assoc, Option, Some, None, ◌-◌, ◌+◌, refl, sym, ap, subst, ◌∙◌, arith, inl, inr}
-use Rattle.std.specs.Prelude.{decimal, nat_eq, ◌==◌}
-use Rattle.std.specs.List.{list_all, starts_with}
-use Rattle.std.proofs.lemmas.Bool.{cases_Bool, and_parts, and_from, leb-true, le-leb, eqb-true, eq-eqb, not_from_false, ne_eqb, not-true}
-use Rattle.std.proofs.lemmas.List.{take_at, drop_at, take-append-drop, length-take, drop_more, get_or-take, take_rest}
+use Rattle.std.proofs.Common.{◌≡◌, ℕ, ◌^◌, ◌<◌, ◌≤◌, true, not, leb, List, [], ◌∷◌, ◌++◌, length, take, drop, length-append, append_assoc, Option, Some, refl, sym, ap, subst, ◌∙◌, arith}
+use Rattle.std.specs.Prelude.{decimal, ◌==◌}
+use Rattle.std.proofs.lemmas.Bool.{and_from, leb-true, le-leb}
+use Rattle.std.proofs.lemmas.List.{take_at, drop_at, take-append-drop, length-take}
 use Rattle.std.proofs.lemmas.List.Folds.{list_all-append}
 use Rattle.std.proofs.lemmas.Option.{same_Some}
-use Rattle.std.proofs.lemmas.Slice.Eq.{bytes_eq-Decides}
 use Rattle.object_name.specs.Number.{number_of}
 use Rattle.object_name.specs.Name.{spelling}
 use Rattle.object_name.proofs.PublicLaws.{number_of-decimal, decimal-number_of, decimal_digit_at}

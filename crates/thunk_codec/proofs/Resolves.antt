@@ -1,14 +1,14 @@
 -- Thunks with values in place of their REFs are thunks.
 use Rattle.std.proofs.Common.{◌≡◌, Bool, true, ℕ, zero, suc, ◌+◌, ◌<◌, ◌≤◌, List, [], ◌∷◌, ◌++◌, length, map, take, drop, get_or, ◌-◌, refl, sym, ap, subst, ◌∙◌, arith, length-append}
-use Rattle.std.specs.Prelude.{IsTrue, decimal}
-use Rattle.std.specs.List.{flat_map, list_all, AllByRecursion}
+use Rattle.std.specs.Prelude.{decimal}
+use Rattle.std.specs.List.{flat_map, AllByRecursion}
 use Rattle.std.proofs.lemmas.List.{length-map, take_all}
 use Rattle.std.proofs.lemmas.List.Concat.{flat_map-cons}
 use Rattle.object_name.specs.Name.{ObjectName, IsName, spelling}
 use Rattle.object_name.proofs.PublicLaws.{length-spelling}
+use Rattle.object_name.specs.declared.kind.Kind.TheVariants as kinds
 use Rattle.thunk_codec.specs.declared.reference.Ref.{Ref}
 use Rattle.thunk_codec.specs.declared.reference.Ref.TheVariants.{Value, Out}
-use Rattle.thunk_codec.specs.Path.{is_path}
 use Rattle.thunk_codec.specs.Reference.{IsRef, ref_text}
 use Rattle.thunk_codec.specs.Thunk.{Parts, IsThunk, text_of, head_line, end_line, counted, function_line, arg_line, env_line, input_line, output_line, keeps_rules}
 use Rattle.thunk_codec.specs.Resolved.{refs_of, with_values, resolved_by, AreNames, HaveValueKind}
@@ -94,6 +94,12 @@ resolved_size-less t value values rules name names =
 -- the rules are on the paths of the inputs, and not on what stands there
 with_values-rules : (t : Parts) (values : List ObjectName) → keeps_rules (record t { inputs = with_values t.inputs values }) ≡ keeps_rules t
 with_values-rules t values = rw (with_values-paths t.inputs values, with_values-count t.inputs values) refl
+
+-- each of them is of a value
+pub kind_at : (values : List ObjectName) (i : ℕ) (d : ObjectName) → i < length values → HaveValueKind values → (get_or values i d).kind ≡ kinds.Value
+kind_at [] i d lt kinds = absurd (omega (arith, lt))
+kind_at (value ∷ values) zero d lt kinds = kinds.0
+kind_at (value ∷ values) (suc i) d lt kinds = kind_at values i d (omega (arith, lt)) kinds.1
 
 -- a thunk with values in place of REFs is a thunk
 pub resolved_is_thunk : (t : Parts) (values : List ObjectName) → IsThunk t → AreNames values → HaveValueKind values → IsThunk (resolved_by t values)

@@ -1,5 +1,5 @@
 -- The rules of thunks, one by one.
-use Rattle.std.proofs.Common.{◌≡◌, ◌≤◌, Bool, true, leb, ℕ, length, map}
+use Rattle.std.proofs.Common.{◌≡◌, ◌≤◌, true, leb, length, map}
 use Rattle.std.specs.List.{list_all}
 use Rattle.std.proofs.lemmas.Bool.{and_parts, and_from, leb-true}
 use Rattle.thunk_codec.specs.Path.{is_path}

@@ -37,7 +37,7 @@ job_encoding job = encoded_string job.function
 abbrev pub job_size : Job → ℕ
 job_size job = length (job_encoding job)
 
--- the same by the lengths of the function and of the inputs
+-- the length of the encoding of a job, by the lengths of its function and of its inputs
 unfoldable pub size_by_lengths : ℕ → List (List ℕ) → List (List ℕ × List ℕ) → List (List ℕ × ℕ) → List (List ℕ) → ℕ
 size_by_lengths function args envs inputs outputs = 20 + function
     + sum_by (λ arg. 4 + length arg) args

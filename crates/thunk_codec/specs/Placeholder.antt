@@ -1,10 +1,9 @@
 -- Placeholders: files that stand for an output of a thunk, and their one text.
-use Rattle.std.specs.Prelude.{◌≡◌, ℕ, List, [], ◌∷◌, ◌++◌, ◌-◌, length, take, nat_eq, Option, Some, None, codes}
-use Rattle.std.specs.List.{ends_with}
+use Rattle.std.specs.Prelude.{◌≡◌, ℕ, List, [], ◌∷◌, ◌++◌, Option, Some, None, codes}
 use Rattle.object_name.specs.Name.{ObjectName}
 use Rattle.thunk_codec.specs.declared.reference.Ref.{Ref}
 use Rattle.thunk_codec.specs.declared.reference.Ref.TheVariants.{Value, Out}
-use Rattle.text_lines.specs.Maybe.{◌>>=◌, ◌>>◌, check}
+use Rattle.text_lines.specs.Maybe.{◌>>=◌}
 use Rattle.thunk_codec.specs.Reference.{IsRef, ref_text, ref_of}
 use Rattle.text_lines.specs.Cuts.{strip_prefix, before_feed}
 

@@ -1,5 +1,5 @@
 -- Reading a thunk's text from its beginning, as a total function.
-use Rattle.std.specs.Prelude.{ℕ, zero, suc, List, [], ◌∷◌, length, take, drop, nat_eq, nat_le, Option, Some, None, bytes_eq, if◌then◌else◌}
+use Rattle.std.specs.Prelude.{ℕ, zero, suc, List, [], ◌∷◌, length, take, drop, nat_eq, nat_le, Option, Some, bytes_eq, if◌then◌else◌}
 use Rattle.std.specs.List.{starts_with}
 use Rattle.object_name.specs.Number.{number_of}
 use Rattle.object_name.specs.Name.{max_size}

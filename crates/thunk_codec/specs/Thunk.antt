@@ -31,6 +31,7 @@ counted bytes = decimal (length bytes) ++ 58 ∷ bytes
 abbrev pub head_line : List ℕ
 head_line = codes "gg-thunk 1" ++ 10 ∷ []
 
+-- the last line of a thunk
 abbrev pub end_line : List ℕ
 end_line = codes "end" ++ 10 ∷ []
 

@@ -1,24 +1,16 @@
 //! Folders, from which paths are seen.
 
 ghost use Rattle.std.specs.Prelude.{◌≡◌, IsTrue, IfOk, bytes_eq};
-ghost use Rattle.std.proofs.Common.{rules};
-ghost use Rattle.std.specs.Cmp.{partial_order_from_own_ties};
-ghost use Rattle.std.specs.Cmp.Lexicographic.{slice_cmp};
-ghost use Rattle.std.specs.Cmp.Rules.{comparing, hashing};
-ghost use Rattle.std.specs.Hash as fed;
-ghost use Rattle.std.specs.Ordering.{nat_cmp, as_partial_cmp};
 ghost use Rattle.thunk_codec.specs.Folder.{folder_of, folder_text, is_folder, joined_from};
 
 use crate::normal::{MAX_PATH, begins_with_slash, components};
 use crate::path::Path;
 use object_name::{Bytes, TryCopy};
 use std::alloc::{AllocError, Global};
-use std::cmp::Ordering;
-use std::hash::{Hash, Hasher};
 use std::marker::Model;
 
 /// A folder: a normal path, or the root, which is spelled `.`. Contracts see its bytes.
-#[derive(Debug, Drop)]
+#[derive(Debug, Drop, PartialEq, Eq, Hash, PartialOrd, Ord)]
 pub struct Folder {
     text: Bytes,
 }
@@ -34,54 +26,6 @@ impl Model for Folder {
     ghost invariant = { λ f. IsTrue (is_folder f.text) };
 
     ghost inverse = { λ text. record { text = text } };
-}
-
-impl PartialEq for Folder {
-    ghost eq = { bytes_eq };
-
-    ghost laws = { Prim.search (comparing, rules) };
-
-    fn eq(&self, other: &Folder) -> bool {
-        self.text() == other.text()
-    }
-}
-
-impl Eq for Folder {
-    ghost laws = { Prim.search (comparing, rules) };
-}
-
-impl Hash for Folder {
-    ghost hash_input = { fed.slice fed.u8 };
-
-    ghost respects_eq = { Prim.search (hashing, rules) };
-
-    fn hash<H: Hasher>(&self, state: &mut H) {
-        self.text().hash(state);
-    }
-}
-
-impl Ord for Folder {
-    ghost cmp = { slice_cmp nat_cmp };
-
-    ghost total = { Prim.search (comparing, rules) };
-
-    ghost matches_partial_cmp = { Prim.search (comparing, rules) };
-
-    ghost matches_eq = { Prim.search (comparing, rules) };
-
-    fn cmp(&self, other: &Folder) -> Ordering {
-        self.text().cmp(other.text())
-    }
-}
-
-impl PartialOrd for Folder {
-    ghost partial_cmp = { as_partial_cmp (slice_cmp nat_cmp) };
-
-    ghost laws = { partial_order_from_own_ties (Prim.search (comparing, rules)) (Prim.search (comparing, rules)) };
-
-    fn partial_cmp(&self, other: &Folder) -> Option<Ordering> {
-        Some(self.cmp(other))
-    }
 }
 
 impl TryCopy for Folder {

@@ -1,8 +1,8 @@
 //! Jobs and their outcomes.
 
-ghost use Rattle.std.specs.Prelude.{◌≡◌, Some, None, MatchOption};
+ghost use Rattle.std.specs.Prelude.{◌≡◌};
 ghost use Rattle.std.specs.Option.{option_copied};
-ghost use Rattle.thunk_codec.specs.Job.{input_at, only_input};
+ghost use Rattle.thunk_codec.specs.Job.{only_input};
 
 use crate::path::Path;
 use object_name::{Bytes, Many, TryCopy};
@@ -16,29 +16,6 @@ pub struct Job {
     pub envs: Many<(Bytes, Bytes)>,
     pub inputs: Many<(Path, Bytes)>,
     pub outputs: Many<Path>,
-}
-
-impl Job {
-    /// The bytes of the first input with this path.
-    pub fn input(&self, path: &[u8]) -> Option<&Bytes>
-        ensures { MatchOption result (input_at path.now self.now.inputs ≡ None) (λ bytes. input_at path.now self.now.inputs ≡ Some bytes.now) }
-    {
-        find_input(self.inputs.as_slice(), path)
-    }
-}
-
-/// The bytes of the first input with this path.
-fn find_input<'a>(inputs: &'a [(Path, Bytes)], path: &[u8]) -> Option<&'a Bytes>
-    ensures { MatchOption result (input_at path.now inputs.now ≡ None) (λ bytes. input_at path.now inputs.now ≡ Some bytes.now) }
-{
-    let mut rest = inputs;
-    'inputs: while let [(first, bytes), others @ ..] = rest {
-        if first.text() == path {
-            return Some(bytes);
-        }
-        rest = others;
-    }
-    None
 }
 
 /// The bytes of the one input, where it has this path.

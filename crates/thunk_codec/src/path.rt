@@ -1,12 +1,6 @@
 //! Normal paths.
 
 ghost use Rattle.std.specs.Prelude.{◌≡◌, IsTrue, IfOk, bytes_eq};
-ghost use Rattle.std.proofs.Common.{rules};
-ghost use Rattle.std.specs.Cmp.{partial_order_from_own_ties};
-ghost use Rattle.std.specs.Cmp.Lexicographic.{slice_cmp};
-ghost use Rattle.std.specs.Cmp.Rules.{comparing, hashing};
-ghost use Rattle.std.specs.Hash as fed;
-ghost use Rattle.std.specs.Ordering.{nat_cmp, as_partial_cmp};
 ghost use Rattle.thunk_codec.specs.Path.{path_of, is_path};
 ghost use Rattle.thunk_codec.specs.Folder.{parent_of, last_of};
 
@@ -14,12 +8,10 @@ use crate::folder::{Folder, folder_with};
 use crate::normal::{MAX_PATH, components, drop_last, last_piece};
 use object_name::{Bytes, TryCopy};
 use std::alloc::{AllocError, Global};
-use std::cmp::Ordering;
-use std::hash::{Hash, Hasher};
 use std::marker::Model;
 
 /// A normal path: 1 to 1,024 bytes from 32 to 126, without empty components, `.` and `..`. Contracts see its bytes.
-#[derive(Debug, Drop)]
+#[derive(Debug, Drop, PartialEq, Eq, Hash, PartialOrd, Ord)]
 pub struct Path {
     text: Bytes,
 }
@@ -33,54 +25,8 @@ impl Model for Path {
     ghost view = { λ p. p.text };
 
     ghost invariant = { λ p. IsTrue (is_path p.text) };
-}
 
-impl PartialEq for Path {
-    ghost eq = { bytes_eq };
-
-    ghost laws = { Prim.search (comparing, rules) };
-
-    fn eq(&self, other: &Path) -> bool {
-        self.text() == other.text()
-    }
-}
-
-impl Eq for Path {
-    ghost laws = { Prim.search (comparing, rules) };
-}
-
-impl Hash for Path {
-    ghost hash_input = { fed.slice fed.u8 };
-
-    ghost respects_eq = { Prim.search (hashing, rules) };
-
-    fn hash<H: Hasher>(&self, state: &mut H) {
-        self.text().hash(state);
-    }
-}
-
-impl Ord for Path {
-    ghost cmp = { slice_cmp nat_cmp };
-
-    ghost total = { Prim.search (comparing, rules) };
-
-    ghost matches_partial_cmp = { Prim.search (comparing, rules) };
-
-    ghost matches_eq = { Prim.search (comparing, rules) };
-
-    fn cmp(&self, other: &Path) -> Ordering {
-        self.text().cmp(other.text())
-    }
-}
-
-impl PartialOrd for Path {
-    ghost partial_cmp = { as_partial_cmp (slice_cmp nat_cmp) };
-
-    ghost laws = { partial_order_from_own_ties (Prim.search (comparing, rules)) (Prim.search (comparing, rules)) };
-
-    fn partial_cmp(&self, other: &Path) -> Option<Ordering> {
-        Some(self.cmp(other))
-    }
+    ghost inverse = { λ text. record { text = text } };
 }
 
 impl TryCopy for Path {

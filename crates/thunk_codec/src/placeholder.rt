@@ -5,7 +5,7 @@ ghost use Rattle.object_name.specs.Name.{ObjectName};
 ghost use Rattle.object_name.specs.declared.kind.Kind.TheVariants.{Thunk};
 ghost use Rattle.thunk_codec.specs.Placeholder.{IsPlaceholder, output_of, placeholder_of};
 
-use crate::reference::{Ref, vouch};
+use crate::reference::Ref;
 use object_name::{Bytes, Name};
 use std::alloc::{AllocError, Global};
 use text_lines::{before_feed, strip_prefix};
@@ -18,9 +18,8 @@ pub fn write_placeholder(alloc: Global, name: &Name, index: u32) -> Result<Bytes
     requires { name.now.kind ≡ Thunk }
     ensures { IfOk result (λ bytes. IsPlaceholder bytes name.now index) }
 {
-    vouch(name);
     let mut text = Bytes::from_slice(alloc, FIRST_LINE)?;
-    Ref::Out(*name, index).write(&mut text)?;
+    Ref::output(name, index).write(&mut text)?;
     text.append(b"\n")?;
     Ok(text)
 }

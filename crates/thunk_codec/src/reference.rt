@@ -4,6 +4,7 @@ ghost use Rattle.std.specs.Prelude.{◌≡◌, ◌↔◌, ◌++◌, ◌∷◌, �
 ghost use Rattle.object_name.specs.Name.{IsName, spelling_len};
 ghost use Rattle.thunk_codec.specs.declared.reference.Ref.{Ref};
 ghost use Rattle.thunk_codec.specs.declared.reference.Ref.TheVariants.{Value, Out};
+ghost use Rattle.object_name.specs.declared.kind.Kind.TheVariants as kinds;
 ghost use Rattle.thunk_codec.specs.Reference.{IsRef, ref_text, ref_of, value_ref_of, out_ref_of};
 ghost use Rattle.thunk_codec.specs.Job.{ref_name};
 
@@ -21,6 +22,26 @@ impl Ref {
     ghost use Rattle.thunk_codec.specs.declared.reference.Ref.{Ref};
     ghost use Rattle.thunk_codec.specs.Reference.{IsRef, ref_text, ref_of};
     ghost use Rattle.thunk_codec.specs.Job.{ref_name};
+
+    /// The value of a name.
+    pub(crate) fn value(name: &Name) -> Ref
+        requires { name.now.kind ≡ kinds.Value }
+        ensures made { result ≡ Value name.now }
+        ensures name { IsName name.now }
+    {
+        prove!(name.kind() == Kind::Value);
+        Ref::Value(*name)
+    }
+
+    /// An output of the thunk of a name.
+    pub(crate) fn output(name: &Name, index: u32) -> Ref
+        requires { name.now.kind ≡ kinds.Thunk }
+        ensures made { result ≡ Out name.now index }
+        ensures name { IsName name.now }
+    {
+        prove!(name.kind() == Kind::Thunk);
+        Ref::Out(*name, index)
+    }
 
     /// The name in it.
     pub fn name(&self) -> &Name
@@ -62,18 +83,10 @@ impl TryCopy for Ref {
     }
 }
 
-/// Tells contracts what the type keeps of a name.
-pub fn vouch(name: &Name)
-    ensures { IsName name.now }
-{
-    name.spell(&mut [0; SPELLING_LEN]);
-}
-
 /// Whether a value may have this name.
 fn is_value(name: &Name) -> bool
     ensures { IsTrue result ↔ IsRef (Value name.now) }
 {
-    vouch(name);
     name.kind() == Kind::Value
 }
 
@@ -81,7 +94,6 @@ fn is_value(name: &Name) -> bool
 fn is_output(name: &Name, _index: u32) -> bool
     ensures { IsTrue result ↔ IsRef (Out name.now _index) }
 {
-    vouch(name);
     name.kind() == Kind::Thunk
 }
 

@@ -4,7 +4,7 @@ ghost use Rattle.std.specs.Prelude.{◌≡◌, IfOk, OnOk, length};
 ghost use Rattle.thunk_codec.specs.Resolved.{refs_of, with_values, resolved_by, AreNames, HaveValueKind};
 
 use crate::path::Path;
-use crate::reference::{Ref, vouch};
+use crate::reference::Ref;
 use crate::thunk::Thunk;
 use object_name::{Many, Name, TryCopy};
 use std::alloc::{AllocError, Global};
@@ -15,16 +15,16 @@ fn inputs_with(
     inputs: &[(Path, Ref)],
     values: &[Name],
 ) -> Result<Many<(Path, Ref)>, AllocError>
-    requires { length values.now ≡ length inputs.now }
+    requires as_many { length values.now ≡ length inputs.now }
+    requires kinds { HaveValueKind values.now }
     ensures made { IfOk result (λ made. made ≡ with_values inputs.now values.now) }
     ensures names { OnOk result (AreNames values.now) }
 {
     let mut made = Many::new(alloc);
     'inputs: for (i, input) in inputs.iter().enumerate() {
-        let value = values[i];
-        vouch(&value);
+        let value = Ref::value(&values[i]);
         let path = input.0.copy(alloc)?;
-        made.push((path, Ref::Value(value)))?;
+        made.push((path, value))?;
     }
     Ok(made)
 }
@@ -38,9 +38,8 @@ pub fn resolve(alloc: Global, thunk: &Thunk, values: &[Name]) -> Result<Thunk, A
     match values {
         [] => thunk.copy(alloc),
         [function, others @ ..] => {
-            vouch(function);
             let inputs = inputs_with(alloc, thunk.inputs(), others)?;
-            thunk.with_refs(alloc, Ref::Value(*function), inputs)
+            thunk.with_refs(alloc, Ref::value(function), inputs)
         }
     }
 }

@@ -12,5 +12,5 @@ pieces-preserved g c =
     record {
       within = piece_within c.args.bytes.now c.pieces.at c.in_ok-at.field-0 c.pieces.invariant.within count.1;
       written = appends_more (g.S.Sink.written c.args.sink.now) (g.S.Sink.written c.pieces.sink) (g.S.Sink.written c.write.new.self) c.args.bytes.now c.pieces.at c.in_ok-at.field-0 c.pieces.invariant.written c.in_ok-at.ensures.took;
-      faults = let before = c.pieces.invariant.faults in let later = c.in_ok-at.ensures.cause.later in omega (arith, before, later);
+      faults = let before = c.pieces.invariant.faults in let later = c.in_ok-at.ensures.cause.later in let most = c.in_ok-at.ensures.cause.most in omega (arith, before, later, most);
     }

@@ -1,9 +1,0 @@
-use Rattle.std.proofs.Common.{◌≡◌, length}
-use Rattle.thunk_codec.specs.Job.{input_at}
-use Rattle.thunk_codec.proofs.job.find_input.Given as goal
-
-abbrev pub invariant-inputs : goal.invariant-inputs
-invariant-inputs l = input_at l.path l.rest ≡ input_at l.path l.inputs
-
-abbrev pub decreases-inputs : goal.decreases-inputs
-decreases-inputs l = length l.rest
