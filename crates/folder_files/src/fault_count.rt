@@ -41,6 +41,7 @@ impl FaultCount {
 
     /// What a call answers, by what came of its work on files: a failure is counted, and out of memory isn't one.
     pub fn answer<T: Drop>(&mut self, done: io::Result<T>) -> Result<T, Trouble>
+        ensures done { IfOk done (λ value. result ≡ Ok value) }
         ensures value { IfOk result (λ value. done ≡ Ok value) }
         ensures cause { HasCause self.old self.new result }
     {

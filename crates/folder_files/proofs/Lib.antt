@@ -1,0 +1,2 @@
+mod NamesApart
+mod PathGrown
