@@ -5,3 +5,4 @@ pub mod KeyIndex
 pub mod PairsByName
 pub mod StoreAfterPut
 pub mod PublicLaws
+mod TriesOnKeeper

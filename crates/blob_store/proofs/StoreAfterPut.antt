@@ -1,5 +1,5 @@
 -- What a put on a keeper in memory does to the store that it tells.
-use Rattle.std.proofs.Common.{◌≡◌, ℕ, List, ap, ◌∙◌}
+use Rattle.std.proofs.Common.{◌≡◌, ℕ, List, ◌++◌, ◌∷◌, [], ap, ◌∙◌}
 use Rattle.std.specs.FinMap as map
 use Rattle.std.specs.FinMap.{get-insert}
 use Rattle.object_name.specs.Name.{ObjectName}
@@ -29,3 +29,14 @@ store_of-with_note old new name bytes made =
 -- a call that changed nothing leaves the store
 pub store_of-called : (old new : Memory) → new ≡ called old → store_of new ≡ store_of old
 store_of-called old new same = ap store_of same
+
+-- a put stands last in the list of the puts that were made
+pub writes-with_object : (old new : Memory) (name : ObjectName) (bytes : List ℕ) → new ≡ with_object old name bytes → new.writes ≡ old.writes ++ Object name bytes ∷ []
+writes-with_object old new name bytes made = ap (λ (m : Memory). m.writes) made
+
+pub writes-with_note : (old new : Memory) (name : ObjectName) (bytes : List ℕ) → new ≡ with_note old name bytes → new.writes ≡ old.writes ++ Note name bytes ∷ []
+writes-with_note old new name bytes made = ap (λ (m : Memory). m.writes) made
+
+-- a call that changed nothing leaves the list
+pub writes-called : (old new : Memory) → new ≡ called old → new.writes ≡ old.writes
+writes-called old new same = ap (λ (m : Memory). m.writes) same

@@ -1,11 +1,20 @@
--- What a call on a keeper, and storing an object, does to the store that the keeper tells.
-use Rattle.std.specs.Prelude.{◌≡◌, ◌⊎◌, ℕ, List, Some, None, Result, Ok, Err}
+-- What a call on a keeper, and storing an object, does to the store that the keeper tells and to the list of its puts.
+use Rattle.std.specs.Prelude.{◌≡◌, ◌⊎◌, ◌++◌, ℕ, List, Some, None, Result, Ok, Err}
 use Rattle.object_name.specs.Name.{ObjectName, name_of}
 use Rattle.object_name.specs.Causes.{RoseBy}
 use Rattle.object_name.specs.declared.trouble.Trouble.{Trouble}
 use Rattle.blob_store.specs.declared.storing.StoreFault.{StoreFault}
 use Rattle.blob_store.specs.declared.storing.StoreFault.TheVariants.{Clash, Failed, Memory}
 use Rattle.blob_store.specs.Store.{Store, Write, written, after_write, held, other_held, own_write, storing}
+
+-- what a keeper tells: its store, and the puts that were answered Ok, the first of them first
+pub record Kept : Type 0 where
+  pub store : Store
+  pub writes : List Write
+
+-- what this keeper tells
+abbrev pub kept : {K : Type 0} → (K → Store) → (K → List Write) → K → Kept
+kept store writes keeper = record { store = store keeper; writes = writes keeper }
 
 -- a write that failed was made or was not
 abbrev pub MayWrite : Store → Write → Store → Type 0
@@ -36,6 +45,13 @@ StoresAs old bytes new (Err (Clash name found fresh)) = Clashes old bytes new fo
 StoresAs old bytes new (Err Failed) = MayStore old bytes new
 StoresAs old bytes new (Err Memory) = MayStore old bytes new
 
+-- the puts that storing some bytes adds to the list, by its answer: what was to be written, each write once, or none
+abbrev pub ListsStored : Store → List ℕ → List Write → List Write → Result ObjectName StoreFault → Type 0
+ListsStored old bytes before after (Ok name) = after ≡ before ++ storing old bytes
+ListsStored old bytes before after (Err (Clash name found fresh)) = after ≡ before
+ListsStored old bytes before after (Err Failed) = after ≡ before
+ListsStored old bytes before after (Err Memory) = after ≡ before
+
 -- two byte strings that differ have this name
 pub record HaveOneName (name : ObjectName) (found fresh : List ℕ) : Type 0 where
   pub first : name_of found ≡ name
@@ -60,3 +76,10 @@ StoreCause retries before after (Err Memory) = Unit {0}
 abbrev pub fault_of : Trouble → StoreFault
 fault_of Trouble.Failed = Failed
 fault_of Trouble.Memory = Memory
+
+-- how many failures of the keeper the answer of storing is
+abbrev pub store_failures : {T : Type 0} → Result T StoreFault → ℕ
+store_failures (Ok name) = 0
+store_failures (Err (Clash name found fresh)) = 0
+store_failures (Err Failed) = 1
+store_failures (Err Memory) = 0

@@ -1,3 +1,4 @@
 pub mod Store
+pub mod Puts
 pub mod Keeping
 pub mod Memory

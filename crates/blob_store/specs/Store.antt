@@ -7,6 +7,7 @@ use Rattle.object_name.specs.Name.{ObjectName, name_of, name_cmp}
 abbrev pub Contents : Type 0
 Contents = ObjectName → Option (List ℕ)
 
+-- what lies in a store: its objects and its notes
 pub record Store : Type 0 where
   pub objects : Contents
   pub notes : Contents

@@ -1,8 +1,9 @@
 //! Objects by name.
 
 ghost use Rattle.std.specs.Prelude.{◌≡◌, ◌↔◌, IsTrue, IfOk, IfSome};
-ghost use Rattle.object_name.specs.Causes.{HasCauseBy};
+ghost use Rattle.object_name.specs.Causes.{HasCauseBy, faults_of};
 ghost use Rattle.object_name.specs.Name.{name_of};
+ghost use Rattle.object_name.specs.Causes.{TriesAtMost};
 ghost use Rattle.blob_store.specs.Store.{held, if_named};
 
 use crate::keeper::Keeper;
@@ -21,7 +22,9 @@ pub fn fetch<K: Keeper>(
     ensures found { K.tells → IfOk result (λ found. found ≡ held (K.store keeper.old).objects name.now) }
     ensures named { IfOk result (λ found. IfSome found (λ bytes. name_of bytes ≡ name.now)) }
     ensures same { K.tells → K.store keeper.new ≡ K.store keeper.old }
+    ensures list { K.tells → K.writes keeper.new ≡ K.writes keeper.old }
     ensures cause { HasCauseBy retries (K.faults keeper.old) (K.faults keeper.new) result }
+    ensures tries { K.tells → TriesAtMost retries K.calls K.faults keeper.old keeper.new (faults_of result) }
 {
     match get_again(alloc, keeper, name, retries)? {
         Some(bytes) => Ok(if_named(name, bytes)),

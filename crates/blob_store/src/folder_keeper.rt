@@ -1,13 +1,12 @@
 //! A keeper in a folder.
 
-ghost use Rattle.std.specs.Prelude.{◌≡◌, None, IfOk};
+ghost use Rattle.std.specs.Prelude.{◌≡◌, [], None, IfOk};
 
 use crate::keeper::Keeper;
-use folder_files::{FaultCount, path_in, read_file, replace_file};
+use folder_files::{FaultCount, FileWriter, is_absent, path_in, read_file};
 use object_name::{Bytes, MAX_SIZE, Name, SPELLING_LEN, Trouble};
 use std::alloc::{AllocError, Global};
 use std::io;
-use std::io::ErrorKind;
 use std::rt::Files;
 
 /// A keeper in a folder, which has each object in `objects` and each note in `notes`, in a file with the name's spelling.
@@ -18,12 +17,13 @@ pub struct FolderKeeper<R> {
     files: R,
     objects: String,
     notes: String,
+    writer: FileWriter,
     faults: FaultCount,
 }
 
 impl<R: Files> FolderKeeper<R> {
-    /// A keeper in the folder of this path, which need not be there yet.
-    pub fn new(alloc: Global, files: R, root: &str) -> Result<Self, AllocError>
+    /// A keeper in the folder of this path, which need not be there yet, for the process with this number.
+    pub fn new(alloc: Global, files: R, root: &str, process: u32) -> Result<Self, AllocError>
     where
         R: Drop,
         ensures { IfOk result (λ k. ⟦<FolderKeeper<R> as Keeper>⟧.faults k ≡ 0) }
@@ -33,6 +33,7 @@ impl<R: Files> FolderKeeper<R> {
             files,
             objects: format!(in alloc; "{root}/objects")?,
             notes: format!(in alloc; "{root}/notes")?,
+            writer: FileWriter::new(process),
             faults: FaultCount::new(),
         })
     }
@@ -50,7 +51,11 @@ impl<R: Files> Keeper for FolderKeeper<R> {
 
     ghost store = { λ _. record { objects = λ _. None; notes = λ _. None } };
 
+    ghost writes = { λ _. [] };
+
     ghost faults = { λ k. k.faults };
+
+    ghost calls = { λ _. 0 };
 
     fn get(&mut self, alloc: Global, name: &Name) -> Result<Option<Bytes>, Trouble> {
         let done = read_named(alloc, &self.files, self.objects.as_str(), name);
@@ -58,7 +63,15 @@ impl<R: Files> Keeper for FolderKeeper<R> {
     }
 
     fn put(&mut self, name: &Name, bytes: &[u8]) -> Result<(), Trouble> {
-        let done = replace_named(self.alloc, &self.files, self.objects.as_str(), name, bytes);
+        let folder = self.objects.as_str();
+        let done = replace_named(
+            self.alloc,
+            &self.files,
+            &mut self.writer,
+            folder,
+            name,
+            bytes,
+        );
         self.faults.answer(done)
     }
 
@@ -68,12 +81,20 @@ impl<R: Files> Keeper for FolderKeeper<R> {
     }
 
     fn put_note(&mut self, name: &Name, bytes: &[u8]) -> Result<(), Trouble> {
-        let done = replace_named(self.alloc, &self.files, self.notes.as_str(), name, bytes);
+        let folder = self.notes.as_str();
+        let done = replace_named(
+            self.alloc,
+            &self.files,
+            &mut self.writer,
+            folder,
+            name,
+            bytes,
+        );
         self.faults.answer(done)
     }
 }
 
-/// The bytes of a name's file, where it is there. A file with more bytes than an object may have counts as none.
+/// The bytes of a name's file, where a plain file is there. One with more bytes than an object may have counts as none.
 fn read_named<R: Files>(
     alloc: Global,
     files: &R,
@@ -82,7 +103,7 @@ fn read_named<R: Files>(
 ) -> io::Result<Option<Bytes>> {
     let path = path_of(alloc, folder, name)?;
     match read_file(alloc, files, path.as_str(), MAX_SIZE as usize) {
-        Err(error) if error.kind() == ErrorKind::NotFound => Ok(None),
+        Err(error) if is_absent(&error) => Ok(None),
         read => read,
     }
 }
@@ -91,12 +112,13 @@ fn read_named<R: Files>(
 fn replace_named<R: Files>(
     alloc: Global,
     files: &R,
+    writer: &mut FileWriter,
     folder: &str,
     name: &Name,
     bytes: &[u8],
 ) -> io::Result<()> {
     let path = path_of(alloc, folder, name)?;
-    replace_file(alloc, files, folder, path.as_str(), bytes)
+    writer.replace(alloc, files, folder, path.as_str(), bytes)
 }
 
 /// The path of a name's file.

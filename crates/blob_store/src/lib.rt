@@ -7,6 +7,7 @@ mod keeper;
 pub mod laws;
 mod mem_keeper;
 mod named_bytes;
+mod puts;
 mod retries;
 mod storing;
 
@@ -14,5 +15,6 @@ pub use fetching::fetch;
 pub use folder_keeper::FolderKeeper;
 pub use keeper::Keeper;
 pub use mem_keeper::MemKeeper;
+pub use puts::Put;
 pub use retries::{get_note_again, put_note_again};
 pub use storing::{StoreFault, store};

@@ -1,17 +1,19 @@
 //! A keeper in memory.
 
-ghost use Rattle.std.specs.Prelude.{◌≡◌, ◌↔◌, ◌++◌, ◌∷◌, [], length, IsTrue, IsErrOf, IfOk, OnOk, OnErr};
+ghost use Rattle.std.specs.Prelude.{◌≡◌, ◌↔◌, ◌++◌, ◌∷◌, [], length, map as map_each, IsTrue, IsErrOf, IfOk, OnOk, OnErr};
 ghost use Rattle.std.specs.FinMap as map;
 ghost use Rattle.object_name.specs.Causes.{HasCause};
-ghost use Rattle.object_name.specs.Calls.{fails_next, not_called};
+ghost use Rattle.object_name.specs.Calls.{fails_next, not_called, risen};
 ghost use Rattle.object_name.specs.Maps.{map_of};
 ghost use Rattle.blob_store.specs.Keeping.{MayWrite};
 ghost use Rattle.blob_store.specs.Memory.{store_of, called, with_object, with_note};
+ghost use Rattle.blob_store.specs.Puts.{write_name};
 ghost use Rattle.blob_store.specs.Store.{after_write};
 ghost use Rattle.blob_store.specs.Store.Write.{Object, Note};
 
 use crate::keeper::Keeper;
 use crate::named_bytes::NamedBytes;
+use crate::puts::Put;
 use object_name::{Bytes, Calls, Many, Name, Trouble};
 use std::alloc::{AllocError, Global};
 use std::marker::Model;
@@ -23,17 +25,19 @@ pub struct MemKeeper {
     objects: NamedBytes,
     notes: NamedBytes,
     calls: Calls,
-    puts: Vec<Name>,
+    puts: Vec<Put>,
 }
 
 impl Model for MemKeeper {
+    ghost use Rattle.std.specs.Prelude.{map};
     ghost use Rattle.blob_store.specs.Memory.{Memory, memory_code};
+    ghost use Rattle.blob_store.specs.Puts.{write_of};
 
     ghost Value = { Memory };
 
     ghost coded = { memory_code };
 
-    ghost view = { λ k. record { objects = k.objects; notes = k.notes; calls = k.calls; puts = k.puts.items } };
+    ghost view = { λ k. record { objects = k.objects; notes = k.notes; calls = k.calls; writes = map write_of k.puts.items } };
 }
 
 impl MemKeeper {
@@ -45,7 +49,7 @@ impl MemKeeper {
         notes: Many<(Name, Bytes)>,
         failing: Many<u64>,
     ) -> Result<Self, AllocError>
-        ensures { IfOk result (λ k. k ≡ record { objects = map_of held; notes = map_of notes; calls = not_called failing; puts = [] }) }
+        ensures { IfOk result (λ k. k ≡ record { objects = map_of held; notes = map_of notes; calls = not_called failing; writes = [] }) }
     {
         Ok(MemKeeper {
             alloc,
@@ -64,10 +68,14 @@ impl MemKeeper {
     }
 
     /// The names of the puts that were made, of objects and notes, in order.
-    pub fn puts(&self) -> &[Name]
-        ensures { result.now ≡ self.now.puts }
+    pub fn puts(&self, alloc: Global) -> Result<Many<Name>, AllocError>
+        ensures { IfOk result (λ names. names ≡ map_each write_name self.now.writes) }
     {
-        self.puts.as_slice()
+        let mut names = Many::new(alloc);
+        'puts: for put in self.puts.as_slice() {
+            names.push(put.name())?;
+        }
+        Ok(names)
     }
 
     /// The objects and the notes with their names, each name once.
@@ -87,13 +95,18 @@ impl Keeper for MemKeeper {
 
     ghost store = { store_of };
 
+    ghost writes = { λ k. k.writes };
+
     ghost faults = { λ k. k.calls.faults };
+
+    ghost calls = { λ k. k.calls.count };
 
     fn get(&mut self, alloc: Global, name: &Name) -> Result<Option<Bytes>, Trouble>
         ensures found { IfOk result (λ found. found ≡ map.get self.old.objects name.now) }
         ensures after { self.new ≡ called self.old }
         ensures fails { IsErrOf result Trouble.Failed ↔ IsTrue (fails_next self.old.calls) }
         ensures cause { HasCause self.old.calls.faults self.new.calls.faults result }
+        ensures one { self.new.calls.count ≡ risen self.old.calls.count }
     {
         self.calls.begin()?;
         Ok(self.objects.get(alloc, name)?)
@@ -104,9 +117,18 @@ impl Keeper for MemKeeper {
         ensures kept { OnErr result (self.new ≡ called self.old) }
         ensures fails { IsErrOf result Trouble.Failed ↔ IsTrue (fails_next self.old.calls) }
         ensures cause { HasCause self.old.calls.faults self.new.calls.faults result }
+        ensures one { self.new.calls.count ≡ risen self.old.calls.count }
     {
         self.calls.begin()?;
-        Ok(keep(self.alloc, &mut self.objects, &mut self.puts, name, bytes)?)
+        let put = Put::Object(*name, Bytes::from_slice(self.alloc, bytes)?);
+        Ok(keep(
+            self.alloc,
+            &mut self.objects,
+            &mut self.puts,
+            name,
+            bytes,
+            put,
+        )?)
     }
 
     fn get_note(&mut self, alloc: Global, name: &Name) -> Result<Option<Bytes>, Trouble>
@@ -114,6 +136,7 @@ impl Keeper for MemKeeper {
         ensures after { self.new ≡ called self.old }
         ensures fails { IsErrOf result Trouble.Failed ↔ IsTrue (fails_next self.old.calls) }
         ensures cause { HasCause self.old.calls.faults self.new.calls.faults result }
+        ensures one { self.new.calls.count ≡ risen self.old.calls.count }
     {
         self.calls.begin()?;
         Ok(self.notes.get(alloc, name)?)
@@ -124,27 +147,37 @@ impl Keeper for MemKeeper {
         ensures kept { OnErr result (self.new ≡ called self.old) }
         ensures fails { IsErrOf result Trouble.Failed ↔ IsTrue (fails_next self.old.calls) }
         ensures cause { HasCause self.old.calls.faults self.new.calls.faults result }
+        ensures one { self.new.calls.count ≡ risen self.old.calls.count }
     {
         self.calls.begin()?;
-        Ok(keep(self.alloc, &mut self.notes, &mut self.puts, name, bytes)?)
+        let put = Put::Note(*name, Bytes::from_slice(self.alloc, bytes)?);
+        Ok(keep(
+            self.alloc,
+            &mut self.notes,
+            &mut self.puts,
+            name,
+            bytes,
+            put,
+        )?)
     }
 }
 
-/// Puts bytes under a name, and records it.
+/// Puts bytes under a name, and records the put.
 fn keep(
     alloc: Global,
     kept: &mut NamedBytes,
-    puts: &mut Vec<Name>,
+    puts: &mut Vec<Put>,
     name: &Name,
     bytes: &[u8],
+    put: Put,
 ) -> Result<(), AllocError>
     ensures put { OnOk result (kept.new ≡ map.insert kept.old name.now bytes.now) }
-    ensures recorded { OnOk result (puts.new.items ≡ puts.old.items ++ name.now ∷ []) }
+    ensures recorded { OnOk result (puts.new.items ≡ puts.old.items ++ put ∷ []) }
     ensures kept { OnErr result (kept.new ≡ kept.old) }
     ensures same { OnErr result (puts.new.items ≡ puts.old.items) }
 {
     let copy = Bytes::from_slice(alloc, bytes)?;
-    puts.push(*name)?;
+    puts.push(put)?;
     if let Err(refused) = kept.put(*name, copy) {
         puts.pop();
         return Err(refused);

@@ -3,7 +3,9 @@
 ghost use Rattle.std.specs.Prelude.{◌≡◌, ◌≤◌, length, IfOk};
 ghost use Rattle.object_name.specs.Name.{name_of, max_size};
 ghost use Rattle.blob_store.specs.declared.storing.StoreFault.TheVariants.{Memory};
-ghost use Rattle.blob_store.specs.Keeping.{StoresAs, ShowsClash, StoreCause, fault_of};
+ghost use Rattle.blob_store.specs.Keeping.{StoresAs, ListsStored, ShowsClash, StoreCause, fault_of};
+ghost use Rattle.object_name.specs.Causes.{TriesAtMost};
+ghost use Rattle.blob_store.specs.Keeping.{store_failures};
 
 use crate::fetching::fetch;
 use crate::keeper::Keeper;
@@ -56,9 +58,12 @@ pub fn store<K: Keeper>(
     requires { length bytes.now ≤ max_size }
     ensures named { IfOk result (λ name. name ≡ name_of bytes.now) }
     ensures stores { K.tells → StoresAs (K.store keeper.old) bytes.now (K.store keeper.new) result }
+    // What was to be written was put once, and nothing else was; a put that failed isn't in the list.
+    ensures listed { K.tells → ListsStored (K.store keeper.old) bytes.now (K.writes keeper.old) (K.writes keeper.new) result }
     ensures clash { ShowsClash bytes.now result }
     ensures later { K.faults keeper.old ≤ K.faults keeper.new }
     ensures cause { StoreCause retries (K.faults keeper.old) (K.faults keeper.new) result }
+    ensures tries { K.tells → TriesAtMost retries K.calls K.faults keeper.old keeper.new (store_failures result) }
 {
     let name = name_of(bytes).unwrap();
     let Some(held) = fetch(alloc, keeper, &name, retries)? else {

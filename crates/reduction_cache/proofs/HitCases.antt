@@ -1,22 +1,26 @@
 -- What holds while names are looked up one after another.
-use Rattle.std.proofs.Common.{◌≡◌, ◌≤◌, ℕ, Bool, true, false, eqb, List, length, Option, Some, None, refl, sym, ap, ◌∙◌}
+use Rattle.std.proofs.Common.{◌≡◌, ◌≤◌, ◌+◌, ◌*◌, ℕ, Bool, true, false, eqb, List, length, Option, Some, None, refl, sym, ap, ◌∙◌}
 use Rattle.std.specs.List.{list_all}
 use Rattle.std.specs.Option.{option_map}
 use Rattle.std.specs.Ordering.{eq_by_cmp}
 use Rattle.std.proofs.lemmas.Bool.{eq-eqb, ne_eqb}
 use Rattle.object_name.specs.Name.{ObjectName, name_cmp}
 use Rattle.text_lines.specs.Maybe.{◌>>=◌, ◌>>◌}
-use Rattle.blob_store.specs.Store.{Store}
+use Rattle.blob_store.specs.Store.{Write, Store}
 use Rattle.object_name.proofs.PublicLaws.{eq_by_cmp-name, eq_by_cmp-other}
+use Rattle.object_name.specs.Causes.{TriesAtMost}
 use Rattle.reduction_cache.specs.Hit.{hit_of, is_held}
 use Rattle.reduction_cache.specs.Note.{NoteOf}
 use Rattle.reduction_cache.specs.Reading.{note_of}
 use Rattle.reduction_cache.proofs.FoundNotes.{note_from}
 
--- the store is as it was, the count hasn't fallen, and the names so far are held
-pub record IsLooking {K : Type 0} (tells : Type 0) (store : K → Store) (faults : K → ℕ) (old now : K) (names : List ObjectName) : Type 0 where
+-- the store is as it was, the count has risen by no more than n for each call, and the names so far are held
+pub record IsLooking {K : Type 0} (tells : Type 0) (store : K → Store) (writes : K → List Write) (faults calls : K → ℕ) (old now : K) (n count : ℕ) (names : List ObjectName) : Type 0 where
   pub same : tells → store now ≡ store old
+  pub list : tells → writes now ≡ writes old
   pub later : faults old ≤ faults now
+  pub most : faults now ≤ faults old + count * n
+  pub tries : tells → TriesAtMost n calls faults old now 0
   pub held : tells → list_all (is_held (store old)) names ≡ true
 
 -- ---- what a store knows, by what stands under the name among its notes

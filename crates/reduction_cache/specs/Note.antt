@@ -13,9 +13,11 @@ pub record NoteOf : Type 0 where
 abbrev pub name_line : ObjectName → List ℕ
 name_line name = spelling name ++ 10 ∷ []
 
+-- the first line of a note
 abbrev pub note_head : List ℕ
 note_head = codes "gg-note 1" ++ 10 ∷ []
 
+-- the last line of a note
 abbrev pub note_end : List ℕ
 note_end = codes "end" ++ 10 ∷ []
 

@@ -1,8 +1,9 @@
 //! Hits: what is known of a reduction by a note of a store.
 
-ghost use Rattle.std.specs.Prelude.{◌≡◌, ◌↔◌, length, IsTrue, IfOk, IfSome};
+ghost use Rattle.std.specs.Prelude.{◌≡◌, ◌↔◌, ◌+◌, length, IsTrue, IfOk, IfSome};
 ghost use Rattle.std.specs.List.{list_all};
-ghost use Rattle.object_name.specs.Causes.{HasCauseBy};
+ghost use Rattle.object_name.specs.Causes.{HasCauseOver, faults_of};
+ghost use Rattle.object_name.specs.Causes.{TriesAtMost};
 ghost use Rattle.reduction_cache.specs.Hit.{hit_of, is_held};
 
 use crate::note::read_note;
@@ -19,7 +20,9 @@ fn are_held<K: Keeper>(
 ) -> Result<bool, Trouble>
     ensures held { K.tells → IfOk result (λ held. held ≡ list_all (is_held (K.store keeper.old)) names.now) }
     ensures same { K.tells → K.store keeper.new ≡ K.store keeper.old }
-    ensures cause { HasCauseBy retries (K.faults keeper.old) (K.faults keeper.new) result }
+    ensures list { K.tells → K.writes keeper.new ≡ K.writes keeper.old }
+    ensures cause { HasCauseOver (length names.now) retries (K.faults keeper.old) (K.faults keeper.new) result }
+    ensures tries { K.tells → TriesAtMost retries K.calls K.faults keeper.old keeper.new (faults_of result) }
 {
     'names: for name in names {
         if fetch(alloc, keeper, name, retries)?.is_none() {
@@ -48,7 +51,9 @@ pub fn hit<K: Keeper>(
     ensures found { K.tells → IfOk result (λ found. found ≡ hit_of (K.store keeper.old) resolved.now outputs) }
     ensures count { IfOk result (λ found. IfSome found (λ names. length names ≡ outputs)) }
     ensures same { K.tells → K.store keeper.new ≡ K.store keeper.old }
-    ensures cause { HasCauseBy retries (K.faults keeper.old) (K.faults keeper.new) result }
+    ensures list { K.tells → K.writes keeper.new ≡ K.writes keeper.old }
+    ensures cause { HasCauseOver (1 + outputs) retries (K.faults keeper.old) (K.faults keeper.new) result }
+    ensures tries { K.tells → TriesAtMost retries K.calls K.faults keeper.old keeper.new (faults_of result) }
 {
     let Some(bytes) = get_note_again(alloc, keeper, resolved, retries)? else {
         return Ok(None);
