@@ -1,8 +1,9 @@
 -- Changes of trees, made once or twice.
 use Rattle.std.proofs.Common.{◌≡◌, inl, inr, ℕ, Bool, true, false, cond, List, Option, Some, None, refl, ap, ◌∙◌}
 use Rattle.std.specs.Prelude.{bytes_eq}
-use Rattle.file_tree.specs.Files.{Files, Change, after_change, MayChange}
-use Rattle.file_tree.specs.Files.Change.{Written, Removed}
+use Rattle.file_tree.specs.Files.{Files, after_change, MayChange}
+use Rattle.file_tree.specs.declared.change.Change.{Change}
+use Rattle.file_tree.specs.declared.change.Change.TheVariants.{Written, Removed}
 
 -- of two choices by one test the inner one goes by the outer
 chosen_once : {A : Type 0} (b : Bool) (x y z : A) → cond b x (cond b y z) ≡ cond b x z

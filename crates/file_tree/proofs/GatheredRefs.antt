@@ -6,6 +6,8 @@ use Rattle.std.proofs.lemmas.List.Elements.{All-push}
 use Rattle.thunk_codec.specs.declared.reference.Ref.{Ref}
 use Rattle.thunk_codec.specs.Reference.{IsRef}
 use Rattle.file_tree.specs.Files.{Files}
+use Rattle.object_name.specs.Causes.{TriesAtMost}
+use Rattle.file_tree.specs.declared.change.Change.{Change}
 use Rattle.file_tree.specs.Wanted.{ref_of_item, refs_of, item_then}
 use Rattle.file_tree.specs.declared.item.Item.{Item}
 use Rattle.file_tree.specs.WantAnswers.{Answers}
@@ -13,11 +15,13 @@ use Rattle.file_tree.specs.declared.refusal.FileRefusal.{FileRefusal}
 use Rattle.file_tree.specs.declared.refusal.WantFault.{WantFault}
 use Rattle.file_tree.specs.declared.refusal.WantFault.TheVariants.{Refused, Failed, Memory}
 
--- the references of the items up to a place are there, and the files are as they were
-pub record HasGathered {T : Type 0} (tells : Type 0) (files : T → Files) (faults : T → ℕ) (old now : T) (items : List Item) (index : ℕ) (refs : List Ref) : Type 0 where
+-- the references of the items up to a place are there, and the files and their changes are as they were
+pub record HasGathered {T : Type 0} (tells : Type 0) (files : T → Files) (changes : T → List Change) (faults calls : T → ℕ) (retries : ℕ) (old now : T) (items : List Item) (index : ℕ) (refs : List Ref) : Type 0 where
   pub so_far : tells → refs_of (files old) (take index items) ≡ Ok refs
   pub same : tells → files now ≡ files old
+  pub list : tells → changes now ≡ changes old
   pub later : faults old ≤ faults now
+  pub tries : tells → TriesAtMost retries calls faults old now 0
   pub all_refs : All IsRef refs
 
 -- references before others

@@ -2,3 +2,4 @@ pub mod ChangedTwice
 pub mod TreeAsMap
 pub mod FirstRepeated
 pub mod GatheredRefs
+mod FirstComponent

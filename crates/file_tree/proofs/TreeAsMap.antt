@@ -15,7 +15,8 @@ use Rattle.std.proofs.lemmas.List.Sums.{fold-append}
 use Rattle.object_name.specs.Calls.{CallList, after_call}
 use Rattle.object_name.specs.Maps.{map_of}
 use Rattle.file_tree.specs.Files.{after_change, file_read}
-use Rattle.file_tree.specs.Files.Change.{Written, Removed}
+use Rattle.file_tree.specs.declared.change.Change.{Change}
+use Rattle.file_tree.specs.declared.change.Change.TheVariants.{Written, Removed}
 use Rattle.file_tree.specs.declared.tree.FileRead.{FileRead}
 use Rattle.file_tree.specs.Memory.{path_cmp, ByPath, Memory, files_of, with_file, with_none, called}
 
@@ -105,24 +106,25 @@ files_of-called old new same = ap files_of same
 
 -- ---- the value of the tree
 
-abbrev memory : Entries → CallList → Memory
-memory es calls = record { held = map.from_entries es; calls = calls }
+abbrev memory : Entries → CallList → List Change → Memory
+memory es calls changes = record { held = map.from_entries es; calls = calls; changes = changes }
 
 -- after an entry was put
-pub memory-inserted : (tree : Memory) (old new : Entries) (calls after : CallList) (path bytes key value : List ℕ) → memory old calls ≡ tree → after ≡ after_call calls → key ≡ path → value ≡ bytes
-    → IsUpdate old new key (Some value) → memory new after ≡ with_file tree path bytes
-memory-inserted tree old new calls after path bytes key value view next at is update =
-    (λ i. record { held = inserted old new key value update i; calls = next i })
-    ∙ (λ i. with_file (view i) (at i) (is i))
+pub memory-inserted : (tree : Memory) (old new : Entries) (calls after : CallList) (changes more : List Change) (path bytes : List ℕ) → memory old calls changes ≡ tree → after ≡ after_call calls
+    → map.from_entries new ≡ map.insert (map.from_entries {R = path_cmp} old) path bytes → more ≡ changes ++ Written path bytes ∷ []
+    → memory new after more ≡ with_file tree path bytes
+memory-inserted tree old new calls after changes more path bytes view next put listed =
+    (λ i. record { held = put i; calls = next i; changes = listed i }) ∙ ap (λ t. with_file t path bytes) view
 
 -- after one was taken out
-pub memory-removed : (tree : Memory) (old new : Entries) (calls after : CallList) (path : List ℕ) → memory old calls ≡ tree → after ≡ after_call calls
-    → IsUpdate old new path None → memory new after ≡ with_none tree path
-memory-removed tree old new calls after path view next update =
-    (λ i. record { held = taken_out old new path update i; calls = next i }) ∙ ap (λ t. with_none t path) view
+pub memory-removed : (tree : Memory) (old new : Entries) (calls after : CallList) (changes more : List Change) (path : List ℕ) → memory old calls changes ≡ tree → after ≡ after_call calls
+    → IsUpdate old new path None → more ≡ changes ++ Removed path ∷ []
+    → memory new after more ≡ with_none tree path
+memory-removed tree old new calls after changes more path view next update listed =
+    (λ i. record { held = taken_out old new path update i; calls = next i; changes = listed i }) ∙ ap (λ t. with_none t path) view
 
 -- what reading answers, by what was found among the entries
-pub read-found : (tree : Memory) (es : Entries) (calls : CallList) (path : List ℕ) (found : Option (List ℕ)) (read : FileRead) → memory es calls ≡ tree → found ≡ lookup (at_path path) es
-    → read ≡ file_read found → read ≡ file_read (map.get tree.held path)
-read-found tree es calls path found read view there is =
+pub read-found : (tree : Memory) (es : Entries) (calls : CallList) (changes : List Change) (path : List ℕ) (found : Option (List ℕ)) (read : FileRead)
+    → memory es calls changes ≡ tree → found ≡ lookup (at_path path) es → read ≡ file_read found → read ≡ file_read (map.get tree.held path)
+read-found tree es calls changes path found read view there is =
     is ∙ ap file_read (there ∙ sym (get-lookup es path) ∙ ap (λ t. map.get t.held path) view)

@@ -2,6 +2,8 @@
 use Rattle.std.specs.Prelude.{◌≡◌, ◌⊎◌, ◌≤◌, ℕ, List, [], ◌∷◌, length, nat_le, bytes_eq, Option, Some, None, if◌then◌else◌}
 use Rattle.object_name.specs.Name.{max_size}
 pub use Rattle.thunk_codec.specs.Files.{Files}
+use Rattle.file_tree.specs.declared.change.Change.{Change}
+use Rattle.file_tree.specs.declared.change.Change.TheVariants.{Written, Removed}
 use Rattle.file_tree.specs.declared.tree.FileRead.{FileRead}
 use Rattle.file_tree.specs.declared.tree.FileRead.TheVariants.{Absent, Bytes, TooLong}
 
@@ -17,11 +19,6 @@ put_file files path bytes = λ other. if bytes_eq other path then Some bytes els
 abbrev pub without_file : Files → List ℕ → Files
 without_file files path = λ other. if bytes_eq other path then None else files other
 
--- a change of a tree: a file is written at a path, or removed
-pub data Change : Type 0 where
-  Written : List ℕ → List ℕ → Change
-  Removed : List ℕ → Change
-
 -- the tree after one change
 abbrev pub after_change : Files → Change → Files
 after_change files (Written path bytes) = put_file files path bytes
@@ -31,6 +28,15 @@ after_change files (Removed path) = without_file files path
 abbrev pub changed : Files → List Change → Files
 changed files [] = files
 changed files (change ∷ changes) = changed (after_change files change) changes
+
+-- what a tree tells: its files, and the changes that were answered Ok, the first of them first
+pub record Filed : Type 0 where
+  pub files : Files
+  pub changes : List Change
+
+-- what this tree tells
+abbrev pub filed_in : {T : Type 0} → (T → Files) → (T → List Change) → T → Filed
+filed_in files changes tree = record { files = files tree; changes = changes tree }
 
 -- a change that failed was made or was not
 abbrev pub MayChange : Files → Change → Files → Type 0

@@ -1,4 +1,5 @@
 pub mod Files
+pub mod InStore
 pub mod Memory
 pub mod Wanted
 pub mod WantAnswers

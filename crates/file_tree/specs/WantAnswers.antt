@@ -47,3 +47,10 @@ WantCause retries before after (Err Memory) = Unit {0}
 abbrev pub fault_of : Trouble → WantFault
 fault_of troubles.Failed = Failed
 fault_of troubles.Memory = Memory
+
+-- how many failures of the tree the answer is
+abbrev pub want_failures : {T : Type 0} → Result T WantFault → ℕ
+want_failures (Ok refs) = 0
+want_failures (Err (Refused refusal)) = 0
+want_failures (Err Failed) = 1
+want_failures (Err Memory) = 0

@@ -1,5 +1,5 @@
 -- Wanted items: references, and files that are placeholders of some.
-use Rattle.std.specs.Prelude.{ℕ, List, [], ◌∷◌, ◌++◌, map, bytes_eq, Option, Some, None, Result, Ok, Err, if◌then◌else◌}
+use Rattle.std.specs.Prelude.{ℕ, List, [], ◌∷◌, ◌++◌, codes, bytes_eq, Option, Some, None, Result, Ok, Err, if◌then◌else◌}
 use Rattle.std.specs.List.{list_any}
 use Rattle.object_name.specs.Name.{ObjectName}
 use Rattle.thunk_codec.specs.declared.reference.Ref.{Ref}
@@ -24,14 +24,20 @@ abbrev pub item_text : Item → List ℕ
 item_text (File path) = path
 item_text (Bare ref) = ref_text ref
 
--- the first of some texts that repeats one before it, among them or the earlier ones
-unfoldable pub first_repeated : List (List ℕ) → List (List ℕ) → Option (List ℕ)
-first_repeated earlier [] = None
-first_repeated earlier (text ∷ texts) = if list_any (bytes_eq text) earlier then Some text else first_repeated (earlier ++ text ∷ []) texts
+-- how an item is spelled so that no file is taken for a reference: a file after `./`
+abbrev pub full_text : Item → List ℕ
+full_text (File path) = codes "./" ++ path
+full_text (Bare ref) = ref_text ref
 
--- the first of some items that is spelled as one before it
+-- the first of some items that repeats one before it, among them or those that are spelled so
+unfoldable pub first_repeated : List (List ℕ) → List Item → Option (List ℕ)
+first_repeated earlier [] = None
+first_repeated earlier (item ∷ items) = if list_any (bytes_eq (full_text item)) earlier then Some (item_text item) else first_repeated (earlier ++ full_text item ∷ []) items
+
+-- the first of some items that repeats one before it: two files are one item where their paths are the same, and two references where
+-- they are, and a file is never a reference
 abbrev pub repeated_item : List Item → Option (List ℕ)
-repeated_item items = first_repeated [] (map item_text items)
+repeated_item items = first_repeated [] items
 
 -- the reference of a placeholder, or the refusal of the file that is none
 abbrev pub ref_of_output : List ℕ → Option (ObjectName × ℕ) → Result Ref FileRefusal
@@ -64,7 +70,7 @@ unfoldable pub refs_of : Files → List Item → Result (List Ref) FileRefusal
 refs_of files [] = Ok []
 refs_of files (item ∷ items) = item_then (ref_of_item files item) (refs_of files items)
 
--- the same, where no item is spelled as one before it
+-- the same, where no item repeats one before it
 abbrev pub refs_once : Files → List Item → Option (List ℕ) → Result (List Ref) FileRefusal
 refs_once files items (Some text) = Err (Twice text)
 refs_once files items None = refs_of files items

@@ -1,7 +1,7 @@
 //! Wanted items.
 
 ghost use Rattle.std.specs.Prelude.{◌≡◌, IfOk};
-ghost use Rattle.file_tree.specs.Wanted.{item_text, repeated_item};
+ghost use Rattle.file_tree.specs.Wanted.{full_text, item_text, repeated_item};
 ghost use Rattle.thunk_codec.specs.Reference.{ref_text};
 
 use object_name::Bytes;
@@ -35,17 +35,31 @@ fn spelled(alloc: Global, reference: &Ref) -> Result<Bytes, AllocError>
     Ok(text)
 }
 
-/// The text of the first of some items that is spelled as one before it.
+/// How an item is spelled so that no file is taken for a reference: a file after `./`.
+fn full_text(alloc: Global, item: &Item) -> Result<Bytes, AllocError>
+    ensures { IfOk result (λ text. text ≡ full_text item.now) }
+{
+    match item {
+        Item::File(path) => {
+            let mut text = Bytes::from_slice(alloc, b"./")?;
+            text.append(path.text())?;
+            Ok(text)
+        }
+        Item::Bare(reference) => spelled(alloc, reference),
+    }
+}
+
+/// The text of the first of some items that repeats one before it.
 pub fn find_repeated(alloc: Global, items: &[Item]) -> Result<Option<Bytes>, AllocError>
     ensures { IfOk result (λ found. found ≡ repeated_item items.now) }
 {
     let mut seen = HashSet::new(alloc);
     'items: for item in items {
-        let text = text_of(alloc, item)?;
-        if seen.contains(&text) {
-            return Ok(Some(text));
+        let full = full_text(alloc, item)?;
+        if seen.contains(&full) {
+            return Ok(Some(text_of(alloc, item)?));
         }
-        seen.insert(text)?;
+        seen.insert(full)?;
     }
     Ok(None)
 }

@@ -1,6 +1,7 @@
 //! Files by their paths, and the references that they stand for.
 #![tactic(auto)]
 
+mod change;
 mod folder_tree;
 mod item;
 mod mem_tree;
@@ -9,7 +10,8 @@ mod retries;
 mod tree;
 mod wanted_refs;
 
-pub use folder_tree::FolderTree;
+pub use change::Change;
+pub use folder_tree::{FolderTree, STORE};
 pub use item::Item;
 pub use mem_tree::MemTree;
 pub use refusal::{FileRefusal, WantFault};

@@ -1,14 +1,16 @@
 //! A tree in memory.
 
-ghost use Rattle.std.specs.Prelude.{◌≡◌, ◌↔◌, length, IsTrue, IsErrOf, IfOk, OnOk, OnErr};
+ghost use Rattle.std.specs.Prelude.{◌≡◌, ◌↔◌, ◌++◌, ◌∷◌, [], length, IsTrue, IsErrOf, IfOk, OnOk, OnErr};
 ghost use Rattle.std.specs.FinMap as map;
 ghost use Rattle.std.specs.Option.{option_copied};
 ghost use Rattle.object_name.specs.Causes.{HasCause};
-ghost use Rattle.object_name.specs.Calls.{fails_next, not_called};
+ghost use Rattle.object_name.specs.Calls.{fails_next, not_called, risen};
 ghost use Rattle.object_name.specs.Maps.{map_of};
 ghost use Rattle.file_tree.specs.Files.{IsShort, file_read};
-ghost use Rattle.file_tree.specs.Memory.{files_of, called, with_file, with_none};
+ghost use Rattle.file_tree.specs.Memory.{files_of, called, path_cmp, with_file, with_none};
+ghost use Rattle.file_tree.specs.declared.change.Change.TheVariants.{Written};
 
+use crate::change::Change;
 use crate::tree::{FileRead, Tree};
 use object_name::{Bytes, Calls, MAX_SIZE, Many, Trouble, TryCopy};
 use std::alloc::{AllocError, Global};
@@ -16,12 +18,13 @@ use std::collections::BTreeMap;
 use std::marker::Model;
 use thunk_codec::Path;
 
-/// A tree in memory, of which the calls with listed numbers fail and change nothing.
+/// A tree in memory, of which the calls with listed numbers fail and change nothing. It records its changes.
 #[derive(Drop)]
 pub struct MemTree {
     alloc: Global,
     held: BTreeMap<Path, Bytes>,
     calls: Calls,
+    changes: Vec<Change>,
 }
 
 impl Model for MemTree {
@@ -32,7 +35,7 @@ impl Model for MemTree {
 
     ghost coded = { memory_code };
 
-    ghost view = { λ t. record { held = map.from_entries t.held.entries; calls = t.calls } };
+    ghost view = { λ t. record { held = map.from_entries t.held.entries; calls = t.calls; changes = t.changes.items } };
 }
 
 impl MemTree {
@@ -43,7 +46,7 @@ impl MemTree {
         files: Many<(Path, Bytes)>,
         failing: Many<u64>,
     ) -> Result<Self, AllocError>
-        ensures { IfOk result (λ t. t ≡ record { held = map_of files; calls = not_called failing }) }
+        ensures { IfOk result (λ t. t ≡ record { held = map_of files; calls = not_called failing; changes = [] }) }
     {
         let mut held = BTreeMap::new(alloc);
         'files: for (path, bytes) in files.0 {
@@ -53,6 +56,7 @@ impl MemTree {
             alloc,
             held,
             calls: Calls::new(failing),
+            changes: Vec::new(alloc),
         })
     }
 
@@ -61,6 +65,13 @@ impl MemTree {
         ensures { result ≡ self.now.calls.count }
     {
         self.calls.count()
+    }
+
+    /// The changes that were made, in order.
+    pub fn changes(&self) -> &[Change]
+        ensures { result.now ≡ self.now.changes }
+    {
+        self.changes.as_slice()
     }
 
     /// The files in the order of their paths, each once.
@@ -82,7 +93,11 @@ impl Tree for MemTree {
 
     ghost files = { files_of };
 
+    ghost changes = { λ t. t.changes };
+
     ghost faults = { λ t. t.calls.faults };
+
+    ghost calls = { λ t. t.calls.count };
 
     fn read(&mut self, alloc: Global, path: &Path) -> Result<FileRead, Trouble>
         ensures found { IfOk result (λ read. read ≡ file_read (map.get self.old.held path.now)) }
@@ -90,6 +105,7 @@ impl Tree for MemTree {
         ensures after { self.new ≡ called self.old }
         ensures fails { IsErrOf result Trouble.Failed ↔ IsTrue (fails_next self.old.calls) }
         ensures cause { HasCause self.old.calls.faults self.new.calls.faults result }
+        ensures one { self.new.calls.count ≡ risen self.old.calls.count }
     {
         self.calls.begin()?;
         Ok(file_read(alloc, self.held.get(path))?)
@@ -100,12 +116,10 @@ impl Tree for MemTree {
         ensures kept { OnErr result (self.new ≡ called self.old) }
         ensures fails { IsErrOf result Trouble.Failed ↔ IsTrue (fails_next self.old.calls) }
         ensures cause { HasCause self.old.calls.faults self.new.calls.faults result }
+        ensures one { self.new.calls.count ≡ risen self.old.calls.count }
     {
         self.calls.begin()?;
-        let path = path.copy(self.alloc)?;
-        let bytes = Bytes::from_slice(self.alloc, bytes)?;
-        self.held.insert(path, bytes)?;
-        Ok(())
+        Ok(keep(self.alloc, &mut self.held, &mut self.changes, path, bytes)?)
     }
 
     fn remove(&mut self, path: &Path) -> Result<(), Trouble>
@@ -113,11 +127,43 @@ impl Tree for MemTree {
         ensures kept { OnErr result (self.new ≡ called self.old) }
         ensures fails { IsErrOf result Trouble.Failed ↔ IsTrue (fails_next self.old.calls) }
         ensures cause { HasCause self.old.calls.faults self.new.calls.faults result }
+        ensures one { self.new.calls.count ≡ risen self.old.calls.count }
     {
         self.calls.begin()?;
+        self.changes.push(Change::Removed(path.copy(self.alloc)?))?;
         self.held.remove(path);
         Ok(())
     }
+}
+
+/// Puts bytes under a path, and records it.
+fn keep(
+    alloc: Global,
+    held: &mut BTreeMap<Path, Bytes>,
+    changes: &mut Vec<Change>,
+    path: &Path,
+    bytes: &[u8],
+) -> Result<(), AllocError>
+    ensures put { OnOk result (map.from_entries {R = path_cmp} held.new.entries ≡ map.insert (map.from_entries held.old.entries) path.now bytes.now) }
+    ensures listed { OnOk result (changes.new.items ≡ changes.old.items ++ Written path.now bytes.now ∷ []) }
+    ensures kept { OnErr result (held.new.entries ≡ held.old.entries) }
+    ensures same { OnErr result (changes.new.items ≡ changes.old.items) }
+{
+    let copy = path.copy(alloc)?;
+    let content = Bytes::from_slice(alloc, bytes)?;
+    changes.push(written(alloc, path, bytes)?)?;
+    if let Err(refused) = held.insert(copy, content) {
+        changes.pop();
+        return Err(AllocError::from(refused));
+    }
+    Ok(())
+}
+
+/// The change that writes bytes at a path.
+fn written(alloc: Global, path: &Path, bytes: &[u8]) -> Result<Change, AllocError>
+    ensures { IfOk result (λ change. change ≡ Written path.now bytes.now) }
+{
+    Ok(Change::Written(path.copy(alloc)?, Bytes::from_slice(alloc, bytes)?))
 }
 
 /// What reading gives, by the bytes of a file.

@@ -4,6 +4,8 @@ ghost use Rattle.std.specs.Prelude.{◌≡◌, ◌≢◌, ◌≤◌, All, None, 
 ghost use Rattle.thunk_codec.specs.Reference.{IsRef};
 ghost use Rattle.file_tree.specs.Files.{file_read};
 ghost use Rattle.file_tree.specs.Wanted.{IsItem, ref_of_item, ref_of_read, refs_of, repeated_item, wanted_of};
+ghost use Rattle.object_name.specs.Causes.{TriesAtMost};
+ghost use Rattle.file_tree.specs.WantAnswers.{want_failures};
 ghost use Rattle.file_tree.specs.WantAnswers.{Answers, NeverTwice, RefusesTwice, WantCause};
 
 use crate::item::{Item, find_repeated};
@@ -28,8 +30,10 @@ pub fn wanted<T: Tree>(
     ensures only { repeated_item items.now ≡ None → NeverTwice result }
     ensures refs { IfOk result (All IsRef) }
     ensures same { T.tells → T.files tree.new ≡ T.files tree.old }
+    ensures list { T.tells → T.changes tree.new ≡ T.changes tree.old }
     ensures later { T.faults tree.old ≤ T.faults tree.new }
     ensures cause { WantCause retries (T.faults tree.old) (T.faults tree.new) result }
+    ensures tries { T.tells → TriesAtMost retries T.calls T.faults tree.old tree.new (want_failures result) }
 {
     match find_repeated(alloc, items)? {
         Some(text) => Err(WantFault::Refused(FileRefusal::Twice(text))),
@@ -49,8 +53,10 @@ fn refs_of<T: Tree>(
     ensures other { NeverTwice result }
     ensures refs { IfOk result (All IsRef) }
     ensures same { T.tells → T.files tree.new ≡ T.files tree.old }
+    ensures list { T.tells → T.changes tree.new ≡ T.changes tree.old }
     ensures later { T.faults tree.old ≤ T.faults tree.new }
     ensures cause { WantCause retries (T.faults tree.old) (T.faults tree.new) result }
+    ensures tries { T.tells → TriesAtMost retries T.calls T.faults tree.old tree.new (want_failures result) }
 {
     let mut refs = Many::new(alloc);
     'items: for item in items {
@@ -72,8 +78,10 @@ fn ref_of_item<T: Tree>(
     ensures other { NeverTwice result }
     ensures refs { IfOk result IsRef }
     ensures same { T.tells → T.files tree.new ≡ T.files tree.old }
+    ensures list { T.tells → T.changes tree.new ≡ T.changes tree.old }
     ensures later { T.faults tree.old ≤ T.faults tree.new }
     ensures cause { WantCause retries (T.faults tree.old) (T.faults tree.new) result }
+    ensures tries { T.tells → TriesAtMost retries T.calls T.faults tree.old tree.new (want_failures result) }
 {
     match item {
         Item::Bare(reference) => Ok(*reference),
@@ -92,8 +100,10 @@ fn ref_of_file<T: Tree>(
     ensures other { NeverTwice result }
     ensures refs { IfOk result IsRef }
     ensures same { T.tells → T.files tree.new ≡ T.files tree.old }
+    ensures list { T.tells → T.changes tree.new ≡ T.changes tree.old }
     ensures later { T.faults tree.old ≤ T.faults tree.new }
     ensures cause { WantCause retries (T.faults tree.old) (T.faults tree.new) result }
+    ensures tries { T.tells → TriesAtMost retries T.calls T.faults tree.old tree.new (want_failures result) }
 {
     let read = read_again(alloc, tree, path, retries)?;
     ref_of_read(alloc, path, &read)

@@ -1,5 +1,10 @@
+use Rattle.std.proofs.Common.{◌≡◌}
 use Rattle.object_name.proofs.PublicLaws.{IsReading}
+use Rattle.object_name.proofs.PublicLaws.{HasCounted}
 use Rattle.file_tree.proofs.retries.read_again.Given as goal
 
 abbrev pub invariant-loop-of-try_again : goal.invariant-loop-of-try_again
-invariant-loop-of-try_again g l = IsReading g.T.Tree.tells g.T.Tree.files g.T.Tree.faults l.initial.tree l.tree l.tried
+invariant-loop-of-try_again g l =
+    IsReading g.T.Tree.tells g.T.Tree.files g.T.Tree.faults l.initial.tree l.tree l.tried
+    × (g.T.Tree.tells → g.T.Tree.changes l.tree ≡ g.T.Tree.changes l.initial.tree)
+    × (g.T.Tree.tells → HasCounted (g.T.Tree.calls l.initial.tree) (g.T.Tree.calls l.tree) l.tried)
