@@ -12,7 +12,7 @@ use Rattle.std.proofs.lemmas.Grind.{get_or_tail}
 use Rattle.std.proofs.lemmas.Map.Lookups.{exact_bytes}
 use Rattle.std.proofs.lemmas.Slice.Eq.{bytes_eq-Decides}
 use Rattle.thunk_codec.specs.Thunk.{is_strictly_increasing}
-use Rattle.include_scan.specs.Scanned.{is_among}
+use Rattle.text_lines.specs.Among.{is_among}
 use Rattle.include_scan.specs.Scanning.{IsInOrder}
 
 -- a path that differs from one after it is before it

@@ -1,22 +1,27 @@
 -- How far a loop of scanning is.
-use Rattle.std.proofs.Common.{◌≡◌, ◌≤◌, ◌+◌, ◌-◌, ℕ, List, Option, length}
+use Rattle.std.proofs.Common.{◌≡◌, ◌≤◌, ◌+◌, ◌-◌, ◌*◌, ℕ, List, Option, length}
 use Rattle.object_name.specs.Name.{max_size}
 use Rattle.thunk_codec.specs.Files.{Files}
+use Rattle.file_tree.specs.declared.change.Change.{Change}
+use Rattle.object_name.specs.Causes.{TriesAtMost}
 use Rattle.text_lines.specs.Lines.{lines_of}
 use Rattle.tool_text.specs.Including.{first_there}
 use Rattle.include_scan.specs.declared.queue.Queue.{Queue}
 use Rattle.include_scan.specs.Scanning.{after_lines, gathered}
 use Rattle.include_scan.specs.Queue.{NoneRefused, Waits}
 
-module _ {T : Type 0} (tells : Type 0) (files : T → Files) (faults : T → ℕ) (old now : T) where
-  -- the tree has the same files, and its count of faults hasn't fallen
+module _ {T : Type 0} (tells : Type 0) (files : T → Files) (changes : T → List Change) (faults calls : T → ℕ) (n : ℕ) (old now : T) where
+  -- the tree has the same files and changes, its count of faults hasn't fallen, and its calls were tried again n times at most
   pub record Keeps : Type 0 where
     pub same : tells → files now ≡ files old
+    pub list : tells → changes now ≡ changes old
     pub later : faults old ≤ faults now
+    pub tried : tells → TriesAtMost n calls faults old now 0
 
-  -- the first of the candidates that are left is that of all
+  -- the first of the candidates that are left is that of all, and the count has risen by no more than n for each of the others
   pub record LookingSoFar (visited : List (List ℕ)) (all rest : List (Option (List ℕ))) : Type 0 where
     pub first : tells → NoneRefused (files old) visited → first_there (files old) rest ≡ first_there (files old) all
+    pub most : faults now + length rest * n ≤ faults old + length all * n
     pub keeps : Keeps
 
   -- the lines that are left meet what all lines meet

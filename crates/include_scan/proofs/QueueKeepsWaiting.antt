@@ -16,7 +16,8 @@ use Rattle.include_scan.specs.declared.fault.ScanFault.{ScanFault}
 use Rattle.include_scan.specs.declared.fault.ScanFault.TheVariants.{Refused, TooMany, Failed, Memory}
 use Rattle.include_scan.specs.declared.found.Found.TheVariants as founds
 use Rattle.include_scan.specs.declared.queue.Queue.{Queue}
-use Rattle.include_scan.specs.Scanned.{bytes_at, inputs_of, is_among}
+use Rattle.text_lines.specs.Among.{is_among}
+use Rattle.include_scan.specs.Scanned.{bytes_at, inputs_of}
 use Rattle.include_scan.specs.Scanning.{Visiting, max_files, refusal_of, refusal_of_read, unless_refused, visit_file, visit_found}
 use Rattle.include_scan.specs.Queue.{NoneRefused, Waits, Leaves, Judges, IsFound, IsNext}
 use Rattle.include_scan.proofs.VisitedGrow.{on_bool, or_first, or_second, among_cases, among_one}

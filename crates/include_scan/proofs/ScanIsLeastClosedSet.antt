@@ -13,7 +13,8 @@ use Rattle.text_lines.specs.Lines.{lines_of}
 use Rattle.tool_text.specs.Directive.{Target, directive_of}
 use Rattle.tool_text.specs.IncludeLine.{IncludeForm, Other, Includes, Computed, include_of}
 use Rattle.tool_text.specs.Including.{candidates, first_there}
-use Rattle.include_scan.specs.Scanned.{IsScanned, asked_by, line_targets, include_targets, bytes_at, is_among}
+use Rattle.text_lines.specs.Among.{is_among}
+use Rattle.include_scan.specs.Scanned.{IsScanned, asked_by, line_targets, include_targets, bytes_at}
 use Rattle.include_scan.specs.Scanning.{max_files, visit_file, visit_found, after_form, after_lines, after_file, after_first, gathered, scan_of}
 use Rattle.include_scan.proofs.VisitedGrow.{HoldsOk, holds_map, bind_holds, AllIn, exists, Onward, none_visited, later_visited, still_visited, VisitsFile, visit_file_goes, among_cases, among_one}
 
@@ -148,6 +149,7 @@ module _ (files : Files) (folders : List (List ℕ)) (source : List ℕ) where
   pub record IsFoundAll (visited : List (List ℕ)) : Type 0 where
     pub scanned : IsScanned files folders source (is_among visited)
     pub there : AllIn files folders source (exists files folders source) visited
+    pub few : length visited ≤ max_files
 
   found : (first visited : List (List ℕ)) → VisitsFile files folders source source [] first → Gathers max_files first visited → IsFoundAll visited
   found first visited h g =
@@ -161,6 +163,7 @@ module _ (files : Files) (folders : List (List ℕ)) (source : List ℕ) where
           least = λ other closed. onward.least other closed (λ path among. absurd (none_among path among));
         };
         there = onward.there (λ path among. absurd (none_among path among));
+        few = onward.few (lit≤ tt);
       }
 
   pub scan_goes : HoldsOk IsFoundAll (scan_of files folders source)

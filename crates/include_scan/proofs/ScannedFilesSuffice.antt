@@ -1,16 +1,20 @@
 -- The scanned files alone, as the inputs of a job, give what all files give.
-use Rattle.std.proofs.Common.{◌≡◌, ℕ, List, [], ◌∷◌, true, false, ◌||◌, Option, Some, None, Ok, IsTrue, refl, sym, ap, subst, ◌∙◌}
-use Rattle.std.specs.Prelude.{bytes_eq, unwrap_or, if◌then◌else◌}
+use Rattle.std.proofs.Common.{◌≡◌, ◌≤◌, ℕ, List, [], ◌∷◌, true, false, ◌||◌, Option, Some, None, Ok, IsTrue, length, refl, sym, ap, subst, ◌∙◌}
+use Rattle.std.specs.Prelude.{bytes_eq, unwrap_or, ◌==◌, IfSome, if◌then◌else◌}
 use Rattle.std.specs.Option.{is_some}
 use Rattle.std.proofs.lemmas.Bool.{false≢true}
 use Rattle.std.proofs.lemmas.Slice.Eq.{bytes_eq-Decides}
 use Rattle.std.proofs.Math.Path.{fun_ext}
 use Rattle.thunk_codec.proofs.PublicLaws.{bytes_eq-self}
+use Rattle.thunk_codec.specs.declared.job.Job.{Job}
+use Rattle.thunk_codec.specs.declared.job.Outcome.TheVariants.{Failed}
 use Rattle.thunk_codec.specs.Job.{input_at}
-use Rattle.thunk_codec.specs.Files.{Files}
+use Rattle.thunk_codec.specs.Files.{Files, files_of}
+use Rattle.tool_text.specs.Cpp.{Settings, no_settings, with_arguments, result_outcome, outcome_with, arguments_outcome, cpp_outcome}
 use Rattle.tool_text.specs.Preprocess.{preprocessed}
-use Rattle.include_scan.specs.Scanned.{IsScanned, Suffices, bytes_at, inputs_of, is_among, only}
-use Rattle.include_scan.specs.Scanning.{IsInOrder, scan_of}
+use Rattle.text_lines.specs.Among.{is_among}
+use Rattle.include_scan.specs.Scanned.{IsClosed, IsScanned, Suffices, AreThere, IsOver, SufficesForJobs, bytes_at, inputs_of, only, with_inputs}
+use Rattle.include_scan.specs.Scanning.{IsInOrder, max_files, scan_of}
 use Rattle.include_scan.proofs.ClosedSetSuffices.{preprocessed_agree}
 use Rattle.include_scan.proofs.VisitedGrow.{HoldsOk, AllIn, exists, on_bool, or_first, or_second}
 use Rattle.include_scan.proofs.ScanIsLeastClosedSet.{IsFoundAll, scan_goes}
@@ -41,9 +45,44 @@ module _ (files : Files) (folders : List (List ℕ)) (source : List ℕ) where
       (λ is_not. inputs_only paths (λ other among. all other (or_second _ _ among)) path
       ∙ sym (ap (λ test. if test || is_among paths path then files path else None) (differ first path is_not)))
 
-  pub scanned_suffice : (paths : List (List ℕ)) → IsScanned files folders source (is_among paths) → AllIn files folders source (exists files folders source) paths → Suffices files folders source paths
-  scanned_suffice paths scanned all macros =
-      ap (λ some. preprocessed some folders macros source) (fun_ext (inputs_only paths all)) ∙ preprocessed_agree files folders source (is_among paths) scanned.closed macros
+  module _ (paths : List (List ℕ)) (closed : IsClosed files folders source (is_among paths)) (all : AreThere files paths) where
+    -- the files of a closed set that are all there suffice
+    pub closed_suffice : Suffices files folders source paths
+    closed_suffice macros =
+        ap (λ some. preprocessed some folders macros source) (fun_ext (inputs_only paths all)) ∙ preprocessed_agree files folders source (is_among paths) closed macros
+
+    module _ (job : Job) (is : (path : List ℕ) → files_of job path ≡ files path) where
+      abbrev pub few : Job
+      few = with_inputs job (inputs_of files paths)
+
+      result_same : (settings : Settings) → settings.folders ≡ folders
+          → preprocessed (files_of few) settings.folders settings.macros source ≡ preprocessed (files_of job) settings.folders settings.macros source
+      result_same settings same =
+          ap (λ some. preprocessed (files_of few) some settings.macros source) same
+          ∙ (closed_suffice settings.macros
+          ∙ (ap (λ some. preprocessed files some settings.macros source) (sym same)
+          ∙ ap (λ some. preprocessed some settings.folders settings.macros source) (sym (fun_ext is))))
+
+      outcome_same : (settings : Option Settings) → IfSome settings (λ settings. settings.folders ≡ folders) → outcome_with few source settings ≡ outcome_with job source settings
+      outcome_same None same = refl
+      outcome_same (Some settings) same = ap result_outcome (result_same settings same)
+
+      -- the source is an input of both
+      source_same : input_at source (inputs_of files paths) ≡ input_at source job.inputs
+      source_same = inputs_only paths all source ∙ (ap (λ test. if test then files source else None) closed.source_in ∙ sym (is source))
+
+      arguments_same : (others : List (List ℕ)) → IfSome (with_arguments others no_settings) (λ settings. settings.folders ≡ folders)
+          → arguments_outcome few (source ∷ others) ≡ arguments_outcome job (source ∷ others)
+      arguments_same others same =
+          ap (λ file. if is_some file then outcome_with few source (with_arguments others no_settings) else Failed 64) source_same
+          ∙ ap (λ outcome. if is_some (input_at source job.inputs) then outcome else Failed 64) (outcome_same (with_arguments others no_settings) same)
+
+      -- and so for jobs
+      pub closed_suffice_for_jobs : IsOver folders source job.args → cpp_outcome few ≡ cpp_outcome job
+      unfolding cpp_outcome
+      closed_suffice_for_jobs over =
+          ap (λ outcome. if length job.outputs == 1 then outcome else Failed 64)
+          (ap (arguments_outcome few) over.source_first ∙ (arguments_same over.others over.folders_behind ∙ sym (ap (arguments_outcome job) over.source_first)))
 
   module _ (visited paths : List (List ℕ)) (is : scan_of files folders source ≡ Ok visited) (in_order : IsInOrder visited paths) where
     same_set : is_among paths ≡ is_among visited
@@ -56,6 +95,18 @@ module _ (files : Files) (folders : List (List ℕ)) (source : List ℕ) where
     pub paths_scanned : IsScanned files folders source (is_among paths)
     paths_scanned = subst (IsScanned files folders source) (sym same_set) what_is_found.scanned
 
+    -- all of them are there
+    pub paths_there : AreThere files paths
+    paths_there path among = what_is_found.there path (sym (in_order.same path) ∙ among)
+
     -- and suffice
     pub paths_suffice : Suffices files folders source paths
-    paths_suffice = scanned_suffice paths paths_scanned (λ path among. what_is_found.there path (sym (in_order.same path) ∙ among))
+    paths_suffice = closed_suffice paths paths_scanned.closed paths_there
+
+    -- for jobs too
+    pub paths_suffice_for_jobs : SufficesForJobs files folders source paths
+    paths_suffice_for_jobs = closed_suffice_for_jobs paths paths_scanned.closed paths_there
+
+    -- and are no more than a scan visits
+    pub paths_are_few : length paths ≡ length visited → length paths ≤ max_files
+    paths_are_few same = subst (λ number. number ≤ max_files) (sym same) what_is_found.few

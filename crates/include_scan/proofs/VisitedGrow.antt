@@ -14,7 +14,8 @@ use Rattle.file_tree.specs.declared.refusal.FileRefusal.TheVariants as refusals
 use Rattle.file_tree.specs.declared.tree.FileRead.TheVariants as reads
 use Rattle.tool_text.specs.Trying.{◌>>=◌}
 use Rattle.include_scan.specs.declared.fault.ScanFault.TheVariants.{TooMany}
-use Rattle.include_scan.specs.Scanned.{IsClosed, is_among}
+use Rattle.text_lines.specs.Among.{is_among}
+use Rattle.include_scan.specs.Scanned.{IsClosed}
 use Rattle.include_scan.specs.Scanning.{Visiting, max_files, refusal_of, refusal_of_read, unless_refused, visit_file}
 
 -- what holds of the files that were visited, where there is no refusal

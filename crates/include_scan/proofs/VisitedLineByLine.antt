@@ -1,11 +1,10 @@
 -- How a line of a file goes on.
-use Rattle.std.proofs.Common.{◌≡◌, ◌≤◌, ◌<◌, ◌+◌, ℕ, List, ◌∷◌, Some, None, Ok, Err, length, refl, sym, ap, subst, ◌∙◌, arith}
+use Rattle.std.proofs.Common.{◌≡◌, ◌≤◌, ◌<◌, ◌+◌, ℕ, List, ◌∷◌, Ok, Err, length, sym, ap, subst, ◌∙◌, arith}
 use Rattle.std.specs.Prelude.{min}
 use Rattle.std.proofs.Math.Nat.{min-le_left, min-eq_left}
 use Rattle.object_name.specs.Name.{max_size}
 use Rattle.thunk_codec.specs.Files.{Files}
 use Rattle.text_lines.specs.Lines.{lines_of}
-use Rattle.file_tree.specs.declared.refusal.FileRefusal.TheVariants as refusals
 use Rattle.tool_text.specs.Directive.{Target, directive_of}
 use Rattle.tool_text.specs.IncludeLine.{IncludeForm, Other, Includes, Computed, include_of}
 use Rattle.tool_text.specs.Including.{candidates, first_there}

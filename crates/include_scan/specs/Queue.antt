@@ -16,7 +16,8 @@ use Rattle.include_scan.specs.declared.fault.ScanFault.TheVariants.{Refused, Too
 use Rattle.include_scan.specs.declared.found.Found.{Found}
 use Rattle.include_scan.specs.declared.found.Found.TheVariants as founds
 use Rattle.include_scan.specs.declared.queue.Queue.{Queue}
-use Rattle.include_scan.specs.Scanned.{bytes_at, inputs_of, is_among}
+use Rattle.text_lines.specs.Among.{is_among}
+use Rattle.include_scan.specs.Scanned.{bytes_at, inputs_of}
 use Rattle.include_scan.specs.Scanning.{StopsSo, Visiting, refusal_of, refusal_of_read}
 
 -- what scanning answers where the tree is in trouble

@@ -1,8 +1,12 @@
 -- The files that preprocessing a source may read: the least set that has the source and what each of its files may include.
-use Rattle.std.specs.Prelude.{◌≡◌, ℕ, List, [], ◌∷◌, Bool, Some, None, IsTrue, Contains, map, unwrap_or, bytes_eq, if◌then◌else◌}
-use Rattle.std.specs.List.{flat_map, list_any}
-use Rattle.thunk_codec.specs.Files.{Files, files_at}
+use Rattle.std.specs.Prelude.{◌≡◌, ℕ, List, [], ◌∷◌, Bool, Some, None, IfSome, IsTrue, Contains, map, unwrap_or, if◌then◌else◌}
+use Rattle.std.specs.List.{flat_map}
+use Rattle.std.specs.Option.{is_some}
+use Rattle.thunk_codec.specs.declared.job.Job.{Job}
+use Rattle.thunk_codec.specs.Files.{Files, files_at, files_of}
+use Rattle.text_lines.specs.Among.{is_among}
 use Rattle.text_lines.specs.Lines.{lines_of}
+use Rattle.tool_text.specs.Cpp.{with_arguments, no_settings, cpp_outcome}
 use Rattle.tool_text.specs.Directive.{Target, directive_of}
 use Rattle.tool_text.specs.Expand.{Macros}
 use Rattle.tool_text.specs.IncludeLine.{IncludeForm, Other, Includes, Computed, include_of}
@@ -42,10 +46,6 @@ pub record IsScanned (files : Files) (folders : List (List ℕ)) (source : List 
 abbrev pub only : (List ℕ → Bool) → Files → Files
 only is_in files = λ path. if is_in path then files path else None
 
--- whether a path is one of some
-abbrev pub is_among : List (List ℕ) → List ℕ → Bool
-is_among paths path = list_any (bytes_eq path) paths
-
 -- the files at some paths, as the inputs of a job
 abbrev pub inputs_of : Files → List (List ℕ) → List (List ℕ × List ℕ)
 inputs_of files paths = map (λ path. (path, bytes_at files path)) paths
@@ -54,3 +54,22 @@ inputs_of files paths = map (λ path. (path, bytes_at files path)) paths
 abbrev pub Suffices : Files → List (List ℕ) → List ℕ → List (List ℕ) → Type 0
 Suffices files folders source paths = (macros : Macros) →
     preprocessed (files_at (inputs_of files paths)) folders macros source ≡ preprocessed files folders macros source
+
+-- a file is at each of some paths
+abbrev pub AreThere : Files → List (List ℕ) → Type 0
+AreThere files paths = (path : List ℕ) → IsTrue (is_among paths path) → IsTrue (is_some (files path))
+
+-- the arguments of a job over a source: the first is its path, and the others give these folders, if they are of their form
+pub record IsOver (folders : List (List ℕ)) (source : List ℕ) (args : List (List ℕ)) : Type 0 where
+  pub others : List (List ℕ)
+  pub source_first : args ≡ source ∷ others
+  pub folders_behind : IfSome (with_arguments others no_settings) (λ settings. settings.folders ≡ folders)
+
+-- a job with other inputs, and all else as it was
+abbrev pub with_inputs : Job → List (List ℕ × List ℕ) → Job
+with_inputs job inputs = record job { inputs = inputs }
+
+-- a job of `cpp` over a source whose inputs are all files has the same outcome with these files alone as inputs
+abbrev pub SufficesForJobs : Files → List (List ℕ) → List ℕ → List (List ℕ) → Type 0
+SufficesForJobs files folders source paths = (job : Job) → ((path : List ℕ) → files_of job path ≡ files path) → IsOver folders source job.args
+    → cpp_outcome (with_inputs job (inputs_of files paths)) ≡ cpp_outcome job

@@ -18,7 +18,8 @@ use Rattle.tool_text.specs.Including.{candidates, first_there}
 use Rattle.tool_text.specs.Trying.{◌>>=◌}
 use Rattle.include_scan.specs.declared.fault.ScanFault.{ScanFault}
 use Rattle.include_scan.specs.declared.fault.ScanFault.TheVariants.{Refused, TooMany, Failed, Memory}
-use Rattle.include_scan.specs.Scanned.{bytes_at, is_among}
+use Rattle.text_lines.specs.Among.{is_among}
+use Rattle.include_scan.specs.Scanned.{bytes_at}
 
 -- the greatest number of files
 abbrev pub max_files : ℕ
@@ -109,3 +110,11 @@ ScanCause retries before after (Err (Refused refusal)) = Unit {0}
 ScanCause retries before after (Err TooMany) = Unit {0}
 ScanCause retries before after (Err Failed) = RoseBy retries before after
 ScanCause retries before after (Err Memory) = Unit {0}
+
+-- how many failures of the tree the answer is
+abbrev pub scan_failures : {X : Type 0} → Result X ScanFault → ℕ
+scan_failures (Ok x) = 0
+scan_failures (Err (Refused refusal)) = 0
+scan_failures (Err TooMany) = 0
+scan_failures (Err Failed) = 1
+scan_failures (Err Memory) = 0

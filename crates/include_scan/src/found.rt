@@ -1,7 +1,8 @@
 //! The file that an include line goes into.
 
-ghost use Rattle.std.specs.Prelude.{◌≡◌, ◌∷◌, [], IfOk};
-ghost use Rattle.object_name.specs.Causes.{HasCauseBy};
+ghost use Rattle.std.specs.Prelude.{◌≡◌, ◌∷◌, [], length, IfOk};
+ghost use Rattle.object_name.specs.Causes.{HasCauseBy, HasCauseOver, faults_of};
+ghost use Rattle.object_name.specs.Causes.{TriesAtMost};
 ghost use Rattle.tool_text.specs.Including.{first_there};
 ghost use Rattle.include_scan.specs.Queue.{IsFound, NoneRefused};
 
@@ -32,7 +33,9 @@ fn look_at<T: Tree>(
 ) -> Result<Found, Trouble>
     ensures exact { T.tells → NoneRefused (T.files tree.old) visited.now.keys → IfOk result (IsFound (T.files tree.old) visited.now.keys (first_there (T.files tree.old) (candidate.now ∷ []))) }
     ensures same { T.tells → T.files tree.new ≡ T.files tree.old }
+    ensures list { T.tells → T.changes tree.new ≡ T.changes tree.old }
     ensures cause { HasCauseBy retries (T.faults tree.old) (T.faults tree.new) result }
+    ensures tries { T.tells → TriesAtMost retries T.calls T.faults tree.old tree.new (faults_of result) }
 {
     let Some(path) = candidate else {
         return Ok(Found::Nowhere);
@@ -56,7 +59,9 @@ pub(crate) fn find<T: Tree>(
 ) -> Result<Found, Trouble>
     ensures exact { T.tells → NoneRefused (T.files tree.old) visited.now.keys → IfOk result (IsFound (T.files tree.old) visited.now.keys (first_there (T.files tree.old) candidates.now)) }
     ensures same { T.tells → T.files tree.new ≡ T.files tree.old }
-    ensures cause { HasCauseBy retries (T.faults tree.old) (T.faults tree.new) result }
+    ensures list { T.tells → T.changes tree.new ≡ T.changes tree.old }
+    ensures cause { HasCauseOver (length candidates.now) retries (T.faults tree.old) (T.faults tree.new) result }
+    ensures tries { T.tells → TriesAtMost retries T.calls T.faults tree.old tree.new (faults_of result) }
 {
     let mut rest = candidates;
     'candidates: while let [candidate, others @ ..] = rest {

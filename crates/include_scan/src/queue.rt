@@ -3,7 +3,7 @@
 ghost use Rattle.std.specs.Prelude.{◌≡◌, ◌≢◌, ℕ, List, [], Option, false, IfErr};
 ghost use Rattle.thunk_codec.specs.Files.{Files};
 ghost use Rattle.file_tree.specs.Files.{file_read};
-ghost use Rattle.include_scan.specs.Scanned.{is_among};
+ghost use Rattle.text_lines.specs.Among.{is_among};
 ghost use Rattle.include_scan.specs.Scanning.{visit_file, visit_found};
 ghost use Rattle.include_scan.specs.Queue.{IsFound, IsNext, Judges, Visits, Waits};
 

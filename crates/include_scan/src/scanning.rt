@@ -1,8 +1,10 @@
 //! Scanning.
 
-ghost use Rattle.std.specs.Prelude.{◌≡◌, ◌≤◌, [], IfOk};
-ghost use Rattle.include_scan.specs.Scanned.{IsScanned, Suffices, is_among};
-ghost use Rattle.include_scan.specs.Scanning.{IsInOrder, ScanCause, Scans, gathered, max_files, scan_of};
+ghost use Rattle.std.specs.Prelude.{◌≡◌, ◌≤◌, [], IfOk, length};
+ghost use Rattle.object_name.specs.Causes.{TriesAtMost};
+ghost use Rattle.text_lines.specs.Among.{is_among};
+ghost use Rattle.include_scan.specs.Scanned.{AreThere, IsScanned, Suffices, SufficesForJobs};
+ghost use Rattle.include_scan.specs.Scanning.{IsInOrder, ScanCause, Scans, gathered, max_files, scan_of, scan_failures};
 ghost use Rattle.include_scan.specs.Queue.{Leaves, Waits};
 
 use crate::fault::ScanFault;
@@ -24,8 +26,10 @@ fn gather<T: Tree>(
 ) -> Result<(), ScanFault>
     ensures exact { T.tells → Waits (T.files tree.old) 0 queue.old → Leaves (gathered (T.files tree.old) folders.now max_files 0 queue.old.visited.keys) queue.new.visited.keys result }
     ensures same { T.tells → T.files tree.new ≡ T.files tree.old }
+    ensures list { T.tells → T.changes tree.new ≡ T.changes tree.old }
     ensures later { T.faults tree.old ≤ T.faults tree.new }
     ensures cause { ScanCause retries (T.faults tree.old) (T.faults tree.new) result }
+    ensures tries { T.tells → TriesAtMost retries T.calls T.faults tree.old tree.new (scan_failures result) }
 {
     'files: for _ in 0..MAX_FILES {
         let Some((path, bytes)) = queue.next() else {
@@ -55,8 +59,10 @@ fn visit_all<T: Tree>(
 ) -> Result<(), ScanFault>
     ensures exact { T.tells → queue.old.visited.keys ≡ [] → queue.old.waiting.items ≡ [] → Leaves (scan_of (T.files tree.old) folders.now file.now) queue.new.visited.keys result }
     ensures same { T.tells → T.files tree.new ≡ T.files tree.old }
+    ensures list { T.tells → T.changes tree.new ≡ T.changes tree.old }
     ensures later { T.faults tree.old ≤ T.faults tree.new }
     ensures cause { ScanCause retries (T.faults tree.old) (T.faults tree.new) result }
+    ensures tries { T.tells → TriesAtMost retries T.calls T.faults tree.old tree.new (scan_failures result) }
 {
     let read = read_again(alloc, tree, file, retries)?;
     queue.add(alloc, file.copy(alloc)?, read)?;
@@ -76,7 +82,8 @@ fn listed(alloc: Global, visited: IndexSet<Path>) -> Result<Many<Path>, AllocErr
 
 /// The paths that were visited, in order.
 fn in_order(alloc: Global, visited: IndexSet<Path>) -> Result<Many<Path>, AllocError>
-    ensures { IfOk result (IsInOrder visited.keys) }
+    ensures order { IfOk result (IsInOrder visited.keys) }
+    ensures number { IfOk result (λ paths. length paths ≡ length visited.keys) }
 {
     let mut sorted = visited;
     sorted.sort()?;
@@ -95,10 +102,15 @@ pub fn scan<T: Tree>(
 ) -> Result<Many<Path>, ScanFault>
     ensures exact { T.tells → Scans (scan_of (T.files tree.old) folders.now file.now) result }
     ensures scanned { T.tells → IfOk result (λ paths. IsScanned (T.files tree.old) folders.now file.now (is_among paths)) }
+    ensures there { T.tells → IfOk result (AreThere (T.files tree.old)) }
+    ensures limit { T.tells → IfOk result (λ paths. length paths ≤ max_files) }
     ensures suffice { T.tells → IfOk result (λ paths. Suffices (T.files tree.old) folders.now file.now paths) }
+    ensures suffice_for_jobs { T.tells → IfOk result (λ paths. SufficesForJobs (T.files tree.old) folders.now file.now paths) }
     ensures same { T.tells → T.files tree.new ≡ T.files tree.old }
+    ensures list { T.tells → T.changes tree.new ≡ T.changes tree.old }
     ensures later { T.faults tree.old ≤ T.faults tree.new }
     ensures cause { ScanCause retries (T.faults tree.old) (T.faults tree.new) result }
+    ensures tries { T.tells → TriesAtMost retries T.calls T.faults tree.old tree.new (scan_failures result) }
 {
     let mut queue = Queue::new(alloc);
     visit_all(alloc, tree, file, folders, &mut queue, retries)?;

@@ -3,12 +3,13 @@
 ghost use Rattle.std.specs.Prelude.{◌≡◌, ◌≤◌, ℕ, length};
 ghost use Rattle.object_name.specs.Name.{max_size};
 ghost use Rattle.text_lines.specs.Lines.{lines_of};
+ghost use Rattle.object_name.specs.Causes.{TriesAtMost};
 ghost use Rattle.tool_text.specs.Directive.{directive_of};
 ghost use Rattle.tool_text.specs.IncludeLine.{include_of};
 ghost use Rattle.tool_text.specs.Including as including;
 ghost use Rattle.tool_text.specs.Including.{first_there};
 ghost use Rattle.tool_text.specs.Seen.{target_seen};
-ghost use Rattle.include_scan.specs.Scanning.{ScanCause, after_lines, visit_found};
+ghost use Rattle.include_scan.specs.Scanning.{ScanCause, after_lines, visit_found, scan_failures};
 ghost use Rattle.include_scan.specs.Queue.{Asks, Visits, Waits};
 
 use crate::fault::ScanFault;
@@ -54,8 +55,10 @@ fn visit_target<T: Tree>(
     ensures exact { T.tells → (index : ℕ) → Waits (T.files tree.old) index queue.old
         → Visits (T.files tree.old) index queue.new (visit_found (T.files tree.old) (first_there (T.files tree.old) (including.candidates folders.now path.now (target_seen target.entry))) queue.old.visited.keys) result }
     ensures same { T.tells → T.files tree.new ≡ T.files tree.old }
+    ensures list { T.tells → T.changes tree.new ≡ T.changes tree.old }
     ensures later { T.faults tree.old ≤ T.faults tree.new }
     ensures cause { ScanCause retries (T.faults tree.old) (T.faults tree.new) result }
+    ensures tries { T.tells → TriesAtMost retries T.calls T.faults tree.old tree.new (scan_failures result) }
 {
     let candidates = candidates(alloc, folders, path, target)?;
     let found = find(alloc, tree, &queue.visited, candidates.as_slice(), retries)?;
@@ -75,8 +78,10 @@ pub(crate) fn visit_lines<T: Tree>(
     ensures exact { T.tells → (index : ℕ) → Waits (T.files tree.old) index queue.old → length bytes.now ≤ max_size
         → Visits (T.files tree.old) index queue.new (after_lines (T.files tree.old) folders.now path.now 1 (lines_of bytes.now) queue.old.visited.keys) result }
     ensures same { T.tells → T.files tree.new ≡ T.files tree.old }
+    ensures list { T.tells → T.changes tree.new ≡ T.changes tree.old }
     ensures later { T.faults tree.old ≤ T.faults tree.new }
     ensures cause { ScanCause retries (T.faults tree.old) (T.faults tree.new) result }
+    ensures tries { T.tells → TriesAtMost retries T.calls T.faults tree.old tree.new (scan_failures result) }
 {
     let mut number: u32 = 1;
     let mut rest = bytes;

@@ -2,6 +2,7 @@ use Rattle.std.proofs.Common.{◌≡◌, ◌≤◌, ◌-◌, ◌+◌, ◌∙◌,
 use Rattle.object_name.specs.Name.{max_size}
 use Rattle.thunk_codec.specs.Files.{Files}
 use Rattle.text_lines.specs.Lines.{lines_of}
+use Rattle.object_name.proofs.PublicLaws.{tries-trans}
 use Rattle.include_scan.specs.Scanning.{after_lines, gathered}
 use Rattle.include_scan.specs.Queue.{Leaves, Visits, Waits}
 use Rattle.include_scan.proofs.GatheredFileByFile.{gathered_none, gathered_one, gathered_fault}
@@ -45,6 +46,9 @@ files-preserved g c = record {
       );
   keeps = record {
     same = λ tells. c.in_ok-visit_lines.ensures.same tells ∙ c.files.invariant.keeps.same tells;
+    list = λ tells. c.in_ok-visit_lines.ensures.list tells ∙ c.files.invariant.keeps.list tells;
+    tried = λ tells.
+        tries-trans c.args.retries g.T.Tree.calls g.T.Tree.faults c.args.tree.now c.files.tree c.visit_lines.new.tree 0 (c.files.invariant.keeps.tried tells) (c.in_ok-visit_lines.ensures.tries tells);
     later = let before = c.files.invariant.keeps.later in let more = c.in_ok-visit_lines.ensures.later in omega (arith, before, more);
   };
 }

@@ -1,7 +1,7 @@
 use Rattle.std.proofs.Common.{◌≡◌, ◌∙◌, [], Ok, Err, sym, ap, subst}
 use Rattle.thunk_codec.specs.Files.{Files}
 use Rattle.file_tree.specs.Files.{file_read}
-use Rattle.include_scan.specs.Scanned.{is_among}
+use Rattle.text_lines.specs.Among.{is_among}
 use Rattle.include_scan.specs.Scanning.{gathered, max_files, visit_file}
 use Rattle.include_scan.specs.Queue.{Leaves, Waits}
 use Rattle.include_scan.proofs.GatheredFileByFile.{scan_first, scan_fault}

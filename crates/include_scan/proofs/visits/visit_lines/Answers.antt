@@ -4,6 +4,7 @@ use Rattle.tool_text.specs.Directive.{directive_of}
 use Rattle.tool_text.specs.IncludeLine.{include_of}
 use Rattle.tool_text.specs.Including.{candidates, first_there}
 use Rattle.tool_text.specs.Seen.{target_seen}
+use Rattle.object_name.proofs.PublicLaws.{tries-trans}
 use Rattle.include_scan.specs.Scanning.{visit_found}
 use Rattle.include_scan.specs.Queue.{Asks, Visits, Waits}
 use Rattle.include_scan.proofs.VisitedLineByLine.{next_number, counted_on, other_line, asked_line, asked_fault, computed_line}
@@ -54,6 +55,9 @@ lines-preserved g c = record {
       c.saturating_add-number.result c.saturating_add-number.ensures c.lines.invariant.counted;
   keeps = record {
     same = λ tells. c.in_ok-visit_target.ensures.same tells ∙ c.lines.invariant.keeps.same tells;
+    list = λ tells. c.in_ok-visit_target.ensures.list tells ∙ c.lines.invariant.keeps.list tells;
+    tried = λ tells.
+        tries-trans c.args.retries g.T.Tree.calls g.T.Tree.faults c.args.tree.now c.lines.tree c.visit_target.new.tree 0 (c.lines.invariant.keeps.tried tells) (c.in_ok-visit_target.ensures.tries tells);
     later = let before = c.lines.invariant.keeps.later in let more = c.in_ok-visit_target.ensures.later in omega (arith, before, more);
   };
 }
