@@ -9,12 +9,14 @@ pub mod FieldsReadBack
 pub mod ArchivesReadBack
 pub mod TablesSayOffsets
 pub mod SearchByPasses
+pub mod SearchIsWhole
 pub mod WordsReadBack
 pub mod OneText
 pub mod TextsReadBack
 pub mod OnSome
 pub mod ReadIsRepresentable
 pub mod StrippedOnce
+pub mod ObjectsAreAssembled
 pub mod OutcomesHaveForm
 pub mod ProgramsAreComplete
 pub mod PublicLaws

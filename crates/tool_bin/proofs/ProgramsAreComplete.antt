@@ -17,38 +17,39 @@ use Rattle.tool_bin.specs.ArchiveReading.{archive_of}
 use Rattle.tool_bin.specs.LinkSteps.{Linked, ◌>>=◌}
 use Rattle.tool_bin.specs.Link.{objects_in, pass, searched, with_archive, with_file, with_input, with_named, with_inputs, is_link_job, linked}
 use Rattle.tool_bin.specs.Program.{empty_program, defined_with, wanted_by, wanted_with, joined_with, with_object, is_asked, with_asked, all_defined}
-use Rattle.tool_bin.specs.Names.{is_among, with_name}
+use Rattle.text_lines.specs.Among.{is_among}
+use Rattle.tool_bin.specs.Names.{with_name}
 use Rattle.tool_bin.specs.Object.{object_head, are_new, names_of}
 use Rattle.tool_bin.specs.ObjectReading.{object_of}
 use Rattle.tool_bin.specs.CompleteProgram.{IsResolved, AreResolved, IsComplete}
 
 -- ---- names
 
-more_kept : (n : List ℕ) (names : List (List ℕ)) (m : List ℕ) → is_among n names ≡ true → is_among n (names ++ m ∷ []) ≡ true
+pub more_kept : (n : List ℕ) (names : List (List ℕ)) (m : List ℕ) → is_among names n ≡ true → is_among (names ++ m ∷ []) n ≡ true
 more_kept n [] m p = absurd cc
-more_kept n (x ∷ names) m p = elim (or_cases (bytes_eq n x) (is_among n names) p) [
-  | inl q ↦ or_left (bytes_eq n x) (is_among n (names ++ m ∷ [])) q
-  | inr q ↦ or_right (bytes_eq n x) (is_among n (names ++ m ∷ [])) (more_kept n names m q)
+more_kept n (x ∷ names) m p = elim (or_cases (bytes_eq n x) (is_among names n) p) [
+  | inl q ↦ or_left (bytes_eq n x) (is_among (names ++ m ∷ []) n) q
+  | inr q ↦ or_right (bytes_eq n x) (is_among (names ++ m ∷ []) n) (more_kept n names m q)
 ]
 
-last_there : (names : List (List ℕ)) (m : List ℕ) → is_among m (names ++ m ∷ []) ≡ true
+pub last_there : (names : List (List ℕ)) (m : List ℕ) → is_among (names ++ m ∷ []) m ≡ true
 last_there [] m = or_left (bytes_eq m m) false ((bytes_eq-Decides m m).1 refl)
-last_there (x ∷ names) m = or_right (bytes_eq m x) (is_among m (names ++ m ∷ [])) (last_there names m)
+last_there (x ∷ names) m = or_right (bytes_eq m x) (is_among (names ++ m ∷ []) m) (last_there names m)
 
 -- what is among some names is among others
 abbrev pub Grows : List (List ℕ) → List (List ℕ) → Type 0
-Grows names others = (n : List ℕ) → is_among n names ≡ true → is_among n others ≡ true
+Grows names others = (n : List ℕ) → is_among names n ≡ true → is_among others n ≡ true
 
 name_grows : (names : List (List ℕ)) (m : List ℕ) → Grows names (with_name names m)
-name_grows names m n p = elim (cases_Bool (is_among m names)) [
-  | inl q ↦ ap (λ (b : Bool). is_among n (if b then names else names ++ m ∷ [])) q ∙ p
-  | inr q ↦ ap (λ (b : Bool). is_among n (if b then names else names ++ m ∷ [])) q ∙ more_kept n names m p
+name_grows names m n p = elim (cases_Bool (is_among names m)) [
+  | inl q ↦ ap (λ (b : Bool). is_among (if b then names else names ++ m ∷ []) n) q ∙ p
+  | inr q ↦ ap (λ (b : Bool). is_among (if b then names else names ++ m ∷ []) n) q ∙ more_kept n names m p
 ]
 
-name_there : (names : List (List ℕ)) (m : List ℕ) → is_among m (with_name names m) ≡ true
-name_there names m = elim (cases_Bool (is_among m names)) [
-  | inl q ↦ ap (λ (b : Bool). is_among m (if b then names else names ++ m ∷ [])) q ∙ q
-  | inr q ↦ ap (λ (b : Bool). is_among m (if b then names else names ++ m ∷ [])) q ∙ last_there names m
+name_there : (names : List (List ℕ)) (m : List ℕ) → is_among (with_name names m) m ≡ true
+name_there names m = elim (cases_Bool (is_among names m)) [
+  | inl q ↦ ap (λ (b : Bool). is_among (if b then names else names ++ m ∷ []) m) q ∙ q
+  | inr q ↦ ap (λ (b : Bool). is_among (if b then names else names ++ m ∷ []) m) q ∙ last_there names m
 ]
 
 all_grows : {A : Type 0} (P Q : A → Type 0) (xs : List A) → ((x : A) → P x → Q x) → AllByRecursion P xs → AllByRecursion Q xs
@@ -109,18 +110,18 @@ wanted_resolved (s ∷ symbols) names =
 
 -- ---- defined names
 
-new_more : (before names : List (List ℕ)) (n : List ℕ) → are_new before names ≡ true → is_among n (before ++ names) ≡ false → are_new before (names ++ n ∷ []) ≡ true
-new_more before [] n p q = and_from (not (is_among n before)) true (not_from_false (is_among n before) (ap (is_among n) (sym (append-nil before)) ∙ q)) refl
+new_more : (before names : List (List ℕ)) (n : List ℕ) → are_new before names ≡ true → is_among (before ++ names) n ≡ false → are_new before (names ++ n ∷ []) ≡ true
+new_more before [] n p q = and_from (not (is_among before n)) true (not_from_false (is_among before n) (ap (λ names. is_among names n) (sym (append-nil before)) ∙ q)) refl
 new_more before (x ∷ names) n p q =
-    let parts = and_parts (not (is_among x before)) (are_new (before ++ x ∷ []) names) p in
-    and_from (not (is_among x before)) (are_new (before ++ x ∷ []) (names ++ n ∷ [])) parts.0
-    (new_more (before ++ x ∷ []) names n parts.1 (ap (is_among n) (append_assoc before (x ∷ []) names) ∙ q))
+    let parts = and_parts (not (is_among before x)) (are_new (before ++ x ∷ []) names) p in
+    and_from (not (is_among before x)) (are_new (before ++ x ∷ []) (names ++ n ∷ [])) parts.0
+    (new_more (before ++ x ∷ []) names n parts.1 (ap (λ names. is_among names n) (append_assoc before (x ∷ []) names) ∙ q))
 
 pub record Defines (defined : List (List ℕ)) (symbols : List Symbol) (made : List (List ℕ)) : Type 0 where
   pub names : made ≡ defined ++ names_of symbols
   pub new : are_new [] made ≡ true
 
-define_next : (s : Symbol) (symbols : List Symbol) (defined made : List (List ℕ)) (among : Bool) → are_new [] defined ≡ true → is_among s.name defined ≡ among
+define_next : (s : Symbol) (symbols : List Symbol) (defined made : List (List ℕ)) (among : Bool) → are_new [] defined ≡ true → is_among defined s.name ≡ among
     → ((d : List (List ℕ)) → are_new [] d ≡ true → defined_with d symbols ≡ Some made → Defines d symbols made)
     → (if among then None else defined_with (defined ++ s.name ∷ []) symbols) ≡ Some made → Defines defined (s ∷ symbols) made
 define_next s symbols defined made true new is next e = absurd cc
@@ -130,7 +131,7 @@ define_next s symbols defined made false new is next e =
 
 define_all : (symbols : List Symbol) (defined made : List (List ℕ)) → are_new [] defined ≡ true → defined_with defined symbols ≡ Some made → Defines defined symbols made
 define_all [] defined made new e = let same : defined ≡ made = cc in record { names = sym same ∙ sym (append-nil defined); new = ap (are_new []) (sym same) ∙ new }
-define_all (s ∷ symbols) defined made new e = define_next s symbols defined made (is_among s.name defined) new refl (λ d. define_all symbols d made) e
+define_all (s ∷ symbols) defined made new e = define_next s symbols defined made (is_among defined s.name) new refl (λ d. define_all symbols d made) e
 
 -- ---- a program as it is linked
 
@@ -138,7 +139,7 @@ define_all (s ∷ symbols) defined made new e = define_next s symbols defined ma
 pub record Kept (l : Program) : Type 0 where
   pub defined : l.defined ≡ names_of l.symbols
   pub new : are_new [] l.defined ≡ true
-  pub main : is_among (codes "main") l.wanted ≡ true
+  pub main : is_among l.wanted (codes "main") ≡ true
   pub resolved : AreResolved l.wanted l.symbols
 
 -- what a step gave keeps it
@@ -210,11 +211,11 @@ inputs_kept inputs (arg ∷ args) l kept = on_link (with_named l (input_at arg i
 nothing_kept : Kept empty_program
 nothing_kept = record { defined = refl; new = refl; main = refl; resolved = tt }
 
-among_all : (P : List ℕ → Bool) (names : List (List ℕ)) (n : List ℕ) → list_all P names ≡ true → is_among n names ≡ true → P n ≡ true
+among_all : (P : List ℕ → Bool) (names : List (List ℕ)) (n : List ℕ) → list_all P names ≡ true → is_among names n ≡ true → P n ≡ true
 among_all P [] n all p = absurd cc
 among_all P (x ∷ names) n all p =
     let parts = and_parts (P x) (list_all P names) all in
-    elim (or_cases (bytes_eq n x) (is_among n names) p) [
+    elim (or_cases (bytes_eq n x) (is_among names n) p) [
       | inl q ↦ ap P ((bytes_eq-Decides n x).0 q) ∙ parts.0
       | inr q ↦ among_all P names n parts.1 q
     ]
@@ -225,12 +226,12 @@ OnComplete (Ok l) = IsComplete l.symbols
 OnComplete (Err fault) = Unit {0}
 
 end_complete : (l : Program) → Kept l → OnComplete (all_defined l)
-end_complete l kept = by (list_all (λ n. is_among n l.defined) l.wanted) refl
+end_complete l kept = by (list_all (λ n. is_among l.defined n) l.wanted) refl
   where
-    by : (test : Bool) → list_all (λ n. is_among n l.defined) l.wanted ≡ test → OnComplete (if test then Ok l else Err UndefinedSymbol)
+    by : (test : Bool) → list_all (λ n. is_among l.defined n) l.wanted ≡ test → OnComplete (if test then Ok l else Err UndefinedSymbol)
     by false e = tt
     by true e =
-        let grows : Grows l.wanted (names_of l.symbols) = λ n p. ap (is_among n) (sym kept.defined) ∙ among_all (λ m. is_among m l.defined) l.wanted n e p in
+        let grows : Grows l.wanted (names_of l.symbols) = λ n p. ap (λ names. is_among names n) (sym kept.defined) ∙ among_all (λ m. is_among l.defined m) l.wanted n e p in
         record { once = ap (are_new []) (sym kept.defined) ∙ kept.new; main = grows (codes "main") kept.main; calls = symbols_grow l.wanted (names_of l.symbols) grows l.symbols kept.resolved }
 
 then_complete : (r : Linked) → OnLinked r → OnComplete (r >>= all_defined)

@@ -61,7 +61,7 @@ lines_coded [] a coded = coded
 lines_coded (line ∷ lines) a coded =
     lines_coded lines (with_words (words_of line) a) (either_coded (three_of (words_of line)) (instruction_of (words_of line)) a (instruction_representable (words_of line)) coded)
 
-gathered_coded : (bytes : List ℕ) → AllByRecursion HasCode (gathered bytes).symbols
+pub gathered_coded : (bytes : List ℕ) → AllByRecursion HasCode (gathered bytes).symbols
 gathered_coded bytes =
     let coded = lines_coded (lines_of bytes) empty_builder (record { done = tt; last = tt }) in
     all_coded (with_read_lines (lines_of bytes) empty_builder).done (with_read_lines (lines_of bytes) empty_builder).last coded.done coded.last

@@ -35,10 +35,10 @@ prefix_line said more rest a b p q =
 
 -- ---- instructions
 
-number_words : (n : ℕ) → n < 2 ^ 64 → words_of (decimal n) ≡ decimal n ∷ []
+pub number_words : (n : ℕ) → n < 2 ^ 64 → words_of (decimal n) ≡ decimal n ∷ []
 number_words n fits = word_last (decimal n) (plain_number n fits) (some_number n fits)
 
-name_words : (name : List ℕ) → is_identifier name ≡ true → words_of name ≡ name ∷ []
+pub name_words : (name : List ℕ) → is_identifier name ≡ true → words_of name ≡ name ∷ []
 name_words name p = word_last name (plain_identifier name p) (some_identifier name p)
 
 push_reads : (n : ℕ) → n < 2 ^ 64 → operated_of (codes "push") (decimal n) ≡ Some (Push n)
@@ -60,7 +60,7 @@ two_words word operand words i e p = record { not_three = ap three_of e; reads =
 one_word : (word : List ℕ) (words : List (List ℕ)) (i : Instruction) → words ≡ word ∷ [] → plain_of word ≡ Some i → SaysCode words i
 one_word word words i e p = record { not_three = ap three_of e; reads = ap instruction_of e ∙ p }
 
-says_code : (i : Instruction) → IsRepresentable i → SaysCode (words_of (instruction_text i)) i
+pub says_code : (i : Instruction) → IsRepresentable i → SaysCode (words_of (instruction_text i)) i
 unfolding plain_of
 says_code (Push n) representable = two_words (codes "push") (decimal n) (words_of (instruction_text (Push n))) (Push n) (ap (λ (v : List (List ℕ)). codes "push" ∷ v) (number_words n representable)) (push_reads n representable)
 says_code Add representable = one_word (codes "add") (words_of (instruction_text Add)) Add refl refl
@@ -70,7 +70,7 @@ says_code Print representable = one_word (codes "print") (words_of (instruction_
 says_code (Call name) representable = two_words (codes "call") name (words_of (instruction_text (Call name))) (Call name) (ap (λ (v : List (List ℕ)). codes "call" ∷ v) (name_words name representable)) (call_reads name representable)
 says_code Return representable = one_word (codes "ret") (words_of (instruction_text Return)) Return refl refl
 
-no_feed_in : (i : Instruction) → IsRepresentable i → list_all is_no_feed (instruction_text i) ≡ true
+pub no_feed_in : (i : Instruction) → IsRepresentable i → list_all is_no_feed (instruction_text i) ≡ true
 no_feed_in (Push n) representable = no_feeds (decimal n) (plain_number n representable)
 no_feed_in Add representable = refl
 no_feed_in Subtract representable = refl

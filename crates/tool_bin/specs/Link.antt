@@ -12,7 +12,7 @@ use Rattle.tool_bin.specs.Archive.{ArchiveMember, ArchiveContents, archive_mark}
 use Rattle.tool_bin.specs.ArchiveReading.{archive_of}
 use Rattle.tool_bin.specs.LinkSteps.{Linked, ◌>>=◌, fault_status}
 use Rattle.tool_bin.specs.Program.{empty_program, with_object, with_asked, all_defined}
-use Rattle.tool_bin.specs.Names.{is_among}
+use Rattle.text_lines.specs.Among.{is_among}
 use Rattle.tool_bin.specs.Object.{object_head, executable_head, object_text}
 use Rattle.tool_bin.specs.ObjectReading.{object_of}
 
@@ -73,7 +73,7 @@ abbrev pub is_link_job : Job → Bool
 is_link_job job = (length job.outputs == 1)
     && (not (length job.args == 0)
     && (list_all (λ arg. is_some (input_at arg job.inputs)) job.args
-    && list_all (λ input. is_among input.0 job.args) job.inputs))
+    && list_all (λ input. is_among job.args input.0) job.inputs))
 
 -- the program that a job asks for
 unfoldable pub linked : Job → Linked

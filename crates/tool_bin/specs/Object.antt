@@ -7,12 +7,13 @@ use Rattle.tool_bin.specs.declared.object.Symbol.{Symbol}
 use Rattle.tool_bin.specs.declared.object.DebugLine.{DebugLine}
 use Rattle.tool_bin.specs.declared.object.Object.{Object}
 use Rattle.tool_bin.specs.Instruction.{instruction_text}
-use Rattle.tool_bin.specs.Names.{is_among}
+use Rattle.text_lines.specs.Among.{is_among}
 
--- the first line of an object, and that of an executable
+-- the first line of an object
 abbrev pub object_head : List ℕ
 object_head = codes "gg-obj 1"
 
+-- the first line of an executable
 abbrev pub executable_head : List ℕ
 executable_head = codes "gg-exe 1"
 
@@ -41,7 +42,7 @@ names_of symbols = map (λ symbol. symbol.name) symbols
 -- whether no name is one of those before it
 abbrev pub are_new : List (List ℕ) → List (List ℕ) → Bool
 are_new before [] = true
-are_new before (name ∷ names) = not (is_among name before) && are_new (before ++ name ∷ []) names
+are_new before (name ∷ names) = not (is_among before name) && are_new (before ++ name ∷ []) names
 
 -- whether there is code
 abbrev pub has_code : List Instruction → Bool

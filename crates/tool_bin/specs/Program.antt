@@ -8,7 +8,8 @@ use Rattle.tool_bin.specs.declared.program.Program.{Program}
 use Rattle.tool_bin.specs.declared.object.Object.{Object}
 use Rattle.tool_bin.specs.declared.object.Symbol.{Symbol}
 use Rattle.tool_bin.specs.LinkSteps.{Linked}
-use Rattle.tool_bin.specs.Names.{is_among, with_name}
+use Rattle.text_lines.specs.Among.{is_among}
+use Rattle.tool_bin.specs.Names.{with_name}
 
 -- the program of no objects: `main` is wanted
 abbrev pub empty_program : Program
@@ -16,13 +17,13 @@ empty_program = record { symbols = []; debug = []; defined = []; wanted = codes 
 
 -- whether a name is wanted and not defined
 abbrev pub is_undefined : Program → List ℕ → Bool
-is_undefined program name = is_among name program.wanted && not (is_among name program.defined)
+is_undefined program name = is_among program.wanted name && not (is_among program.defined name)
 
 -- the defined names with those of some symbols, if none of these is defined before
 abbrev pub defined_with : List (List ℕ) → List Symbol → Option (List (List ℕ))
 defined_with defined [] = Some defined
 defined_with defined (symbol ∷ symbols) =
-    if is_among symbol.name defined then None else defined_with (defined ++ symbol.name ∷ []) symbols
+    if is_among defined symbol.name then None else defined_with (defined ++ symbol.name ∷ []) symbols
 
 -- the wanted names with what an instruction calls
 abbrev pub wanted_by : List (List ℕ) → Instruction → List (List ℕ)
@@ -58,4 +59,4 @@ with_asked program object = if is_asked program object then with_object program 
 -- the program, where no symbol is undefined at the end
 abbrev pub all_defined : Program → Linked
 all_defined program =
-    if list_all (λ name. is_among name program.defined) program.wanted then Ok program else Err UndefinedSymbol
+    if list_all (λ name. is_among program.defined name) program.wanted then Ok program else Err UndefinedSymbol

@@ -4,14 +4,15 @@ ghost use Rattle.thunk_codec.specs.declared.job.Job.{Job};
 ghost use Rattle.std.specs.Prelude.{◌≡◌, ◌<◌, ◌^◌, ℕ, List, Some, Ok, length, true};
 ghost use Rattle.tool_bin.specs.declared.object.Object.{Object};
 ghost use Rattle.tool_bin.specs.Ar.{ar_outcome, ranlib_outcome};
-ghost use Rattle.tool_bin.specs.Assemble.{as_outcome, assembled};
+ghost use Rattle.tool_bin.specs.Assemble.{as_outcome, assembled, assembled_text};
 ghost use Rattle.tool_bin.specs.Compile.{cc1_outcome};
 ghost use Rattle.thunk_codec.specs.Outcome.{HasForm};
 ghost use Rattle.tool_bin.specs.Object.{object_head, executable_head, object_text, is_well_formed};
 ghost use Rattle.tool_bin.specs.ObjectReading.{object_of};
 ghost use Rattle.tool_bin.specs.Strip.{strip_outcome, stripped};
 ghost use Rattle.tool_bin.specs.declared.program.Program.{Program};
-ghost use Rattle.tool_bin.specs.Link.{ld_outcome, linked};
+ghost use Rattle.tool_bin.specs.Archive.{ArchiveContents};
+ghost use Rattle.tool_bin.specs.Link.{ld_outcome, linked, objects_in, pass, with_archive};
 ghost use Rattle.tool_bin.specs.CompleteProgram.{IsComplete};
 ghost use Rattle.tool_bin.specs.Representable.{IsRepresentableObject};
 
@@ -43,6 +44,11 @@ pub fn assembled_reads_back()
         → object_of object_head (object_text object_head object) ≡ Some object }
 {}
 
+/// Each object is the text that some source is assembled into.
+pub fn objects_are_assembled()
+    ensures { (bytes : List ℕ) (object : Object) → object_of object_head bytes ≡ Some object → (source : List ℕ) × (assembled_text source ≡ Some bytes) }
+{}
+
 /// Stripping what is stripped changes nothing.
 pub fn stripped_once()
     ensures { (source : List ℕ) (text : List ℕ) → stripped source ≡ Some text → length text < 2 ^ 64 → stripped text ≡ Some text }
@@ -51,4 +57,10 @@ pub fn stripped_once()
 /// A linked program has `main` and all that is called, and no two symbols of one name.
 pub fn programs_are_complete()
     ensures { (job : Job) (program : Program) → linked job ≡ Ok program → IsComplete program.symbols }
+{}
+
+/// Where the search of an archive ends, a further pass over its objects adds nothing: the number of passes never cuts a search short.
+pub fn searches_are_whole()
+    ensures { (program : Program) (more : Program) (archive : ArchiveContents) → with_archive program (Some archive) ≡ Ok more
+        → pass more (objects_in archive.members) ≡ Ok more }
 {}

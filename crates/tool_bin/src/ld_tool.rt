@@ -5,7 +5,7 @@ ghost use Rattle.std.specs.List.{list_all};
 ghost use Rattle.tool_bin.specs.ArchiveReading.{archive_of};
 ghost use Rattle.tool_bin.specs.Link.{objects_in, pass, searched, with_archive, with_file, with_input, with_named, with_inputs, is_link_job, linked, executable_text, executable_outcome, ld_outcome};
 ghost use Rattle.tool_bin.specs.Program.{empty_program};
-ghost use Rattle.tool_bin.specs.Names.{is_among};
+ghost use Rattle.text_lines.specs.Among.{is_among};
 ghost use Rattle.thunk_codec.specs.Job.{input_at};
 ghost use Rattle.tool_bin.specs.Object.{object_head};
 ghost use Rattle.tool_bin.specs.ObjectReading.{object_of};
@@ -150,7 +150,7 @@ fn are_inputs(inputs: &InputsByPath<'_>, args: &[Bytes]) -> bool
 
 /// Whether the path of each input is one of some names.
 fn are_named_by(alloc: Global, inputs: &[(Path, Bytes)], names: &Names) -> Result<bool, AllocError>
-    ensures { IfOk result (λ named. named ≡ list_all (λ input. is_among input.0 names.now) inputs.now) }
+    ensures { IfOk result (λ named. named ≡ list_all (λ input. is_among names.now input.0) inputs.now) }
 {
     let mut rest = inputs;
     'inputs: while let [input, others @ ..] = rest {
@@ -165,7 +165,7 @@ fn are_named_by(alloc: Global, inputs: &[(Path, Bytes)], names: &Names) -> Resul
 
 /// Whether the path of each input is an argument.
 fn are_named(alloc: Global, job: &Job) -> Result<bool, AllocError>
-    ensures { IfOk result (λ named. named ≡ list_all (λ input. is_among input.0 job.now.args) job.now.inputs) }
+    ensures { IfOk result (λ named. named ≡ list_all (λ input. is_among job.now.args input.0) job.now.inputs) }
 {
     let names = Names::of(alloc, job.args.as_slice())?;
     are_named_by(alloc, job.inputs.as_slice(), &names)

@@ -2,7 +2,8 @@
 
 ghost use Rattle.std.specs.Prelude.{◌≡◌, [], fold, not, IfOk, OnOk};
 ghost use Rattle.std.specs.List.{list_all};
-ghost use Rattle.tool_bin.specs.Names.{is_among, with_name};
+ghost use Rattle.text_lines.specs.Among.{is_among};
+ghost use Rattle.tool_bin.specs.Names.{with_name};
 
 use indexmap::IndexSet;
 use object_name::Bytes;
@@ -43,21 +44,21 @@ impl Names {
 
     /// Whether a name is one of them.
     pub(crate) fn contains(&self, name: &Bytes) -> bool
-        ensures { result ≡ is_among name.now self.now }
+        ensures { result ≡ is_among self.now name.now }
     {
         self.0.contains(name)
     }
 
     /// Whether each of them is one of others.
     pub(crate) fn are_among(&self, others: &Names) -> bool
-        ensures { result ≡ list_all (λ name. is_among name others.now) self.now }
+        ensures { result ≡ list_all (λ name. is_among others.now name) self.now }
     {
         self.0.as_slice().iter().all(|name| others.contains(name))
     }
 
     /// Adds a name after the others where it is new, and says whether it was.
     pub(crate) fn add(&mut self, alloc: Global, name: &Bytes) -> Result<bool, AllocError>
-        ensures new { IfOk result (λ added. added ≡ not (is_among name.now self.old)) }
+        ensures new { IfOk result (λ added. added ≡ not (is_among self.old name.now)) }
         ensures names { OnOk result (self.new ≡ with_name self.old name.now) }
     {
         let copy = Bytes::from_slice(alloc, name.as_slice())?;

@@ -1,5 +1,5 @@
 -- The outcome of each card has the form that its job wants.
-use Rattle.std.proofs.Common.{◌≡◌, ◌≤◌, ◌+◌, ◌^◌, ◌∷◌, [], ℕ, List, length, Bool, true, Option, Some, None, Result, Ok, Err, cond, sym, eqb-true, leb-true, lit≤, arith}
+use Rattle.std.proofs.Common.{◌≡◌, ◌≤◌, ◌+◌, ◌^◌, ◌∷◌, [], ℕ, List, length, true, Option, Some, None, Result, Ok, Err, cond, sym, eqb-true, leb-true, lit≤, arith}
 use Rattle.std.specs.Prelude.{◌==◌, ◌&&◌, nat_lt, nat_le, bytes_eq, codes, unwrap_or}
 use Rattle.std.specs.Option.{is_some}
 use Rattle.std.proofs.lemmas.Bool.{and_parts, cond_both}

@@ -1,10 +1,8 @@
 -- The longest prefix of a text whose bytes pass a test, by its length.
-use Rattle.std.proofs.Common.{◌≡◌, ℕ, ◌<◌, ◌≤◌, suc, Bool, true, false, List, [], ◌∷◌, length, Some, None, eqb, take, drop, get_or, not, refl, sym, ap, arith}
-use Rattle.std.specs.Prelude.{◌==◌}
-use Rattle.std.specs.List.{list_any, prefix_len}
-use Rattle.std.proofs.lemmas.Bool.{eq-eqb, not-true}
+use Rattle.std.proofs.Common.{◌≡◌, ℕ, ◌<◌, ◌≤◌, Bool, true, false, List, length, drop, get_or, sym, ap, arith}
+use Rattle.std.specs.List.{prefix_len}
 use Rattle.std.proofs.lemmas.List.Sums.{prefix_len_is, prefix_len-le-length}
-use Rattle.std.proofs.lemmas.List.Folds.{length-prefix_len, list_any_at}
+use Rattle.std.proofs.lemmas.List.Folds.{length-prefix_len}
 use Rattle.tool_text.specs.Directive.{after_while}
 
 -- each byte below an index passes a test

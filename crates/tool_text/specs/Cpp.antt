@@ -1,5 +1,5 @@
 -- The card `cpp`: the preprocessor, with include folders and definitions as arguments.
-use Rattle.std.specs.Prelude.{ℕ, List, [], ◌∷◌, ◌++◌, ◌+◌, ◌==◌, Option, Some, None, Result, Ok, Err, length, nat_eq, drop, codes, if◌then◌else◌}
+use Rattle.std.specs.Prelude.{ℕ, List, [], ◌∷◌, ◌++◌, ◌==◌, Option, Some, None, Result, Ok, Err, length, nat_eq, drop, codes, if◌then◌else◌}
 use Rattle.std.specs.List.{starts_with}
 use Rattle.std.specs.Option.{is_some}
 use Rattle.thunk_codec.specs.declared.job.Job.{Job}

@@ -1,6 +1,6 @@
 -- The card `fib`: a Fibonacci number, as the thunk that adds the two before it.
-use Rattle.std.specs.Prelude.{ℕ, ◌-◌, List, [], ◌∷◌, nat_eq, nat_le, not, length, codes, decimal, bytes_eq, Option, Some, None, if◌then◌else◌}
-use Rattle.std.specs.List.{starts_with}
+use Rattle.std.specs.Prelude.{◌≡◌, ◌≤◌, ℕ, ◌-◌, List, [], ◌∷◌, nat_eq, nat_le, not, length, map, codes, decimal, bytes_eq, Option, Some, None, if◌then◌else◌}
+use Rattle.std.specs.List.{starts_with, AllByRecursion}
 use Rattle.std.specs.Cmp.Lexicographic.{pointwise}
 use Rattle.object_name.specs.Kind.{thunk_mark}
 use Rattle.object_name.specs.Name.{ObjectName, max_size, name_of}
@@ -11,7 +11,7 @@ use Rattle.thunk_codec.specs.declared.job.Outcome.TheVariants.{Done, Failed}
 use Rattle.thunk_codec.specs.declared.reference.Ref.TheVariants.{Value, Out}
 use Rattle.text_lines.specs.Maybe.{◌>>=◌, ◌>>◌, check}
 use Rattle.thunk_codec.specs.Job.{only_input}
-use Rattle.thunk_codec.specs.Thunk.{Parts, text_of}
+use Rattle.thunk_codec.specs.Thunk.{IsThunk, Parts, text_of}
 use Rattle.tool_text.specs.declared.fib_thunks.Asked.{Asked}
 use Rattle.tool_text.specs.Numbers.{number_line}
 
@@ -74,12 +74,16 @@ sum_thunk asked left right = record {
   outputs = codes "out" ∷ [];
 }
 
--- the sum of the two numbers before the one that is asked for, and the thunks of these two
+-- the thunks that a number of 2 or more is answered with: the sum of the two numbers before it, and these two
+abbrev pub thunks_of : Asked → List Parts
+thunks_of asked =
+    let left = fib_thunk asked (asked.number - 1) in
+    let right = fib_thunk asked (asked.number - 2) in
+    sum_thunk asked (name_of (text_of left)) (name_of (text_of right)) ∷ left ∷ right ∷ []
+
+-- their texts
 abbrev pub thunk_texts : Asked → List (List ℕ)
-thunk_texts asked =
-    let left = text_of (fib_thunk asked (asked.number - 1)) in
-    let right = text_of (fib_thunk asked (asked.number - 2)) in
-    text_of (sum_thunk asked (name_of left) (name_of right)) ∷ left ∷ right ∷ []
+thunk_texts asked = map text_of (thunks_of asked)
 
 -- the numbers 0 and 1 are their own, and the others are sums
 abbrev pub contents_of : Asked → List (List ℕ)
@@ -93,3 +97,12 @@ outcome_of (Some asked) = Done (contents_of asked)
 -- the outcome of a job
 abbrev pub fib_outcome : Job → Outcome
 fib_outcome job = outcome_of (asked_of job)
+
+-- the answer to what is asked for is the texts of these, and they keep the rules of thunks
+pub record GivesThunks (asked : Asked) (outcome : Outcome) : Type 0 where
+  pub texts : outcome ≡ Done (map text_of (thunks_of asked))
+  pub rules : AllByRecursion IsThunk (thunks_of asked)
+
+-- and so it is where a job asks for a number of 2 or more
+abbrev pub GivesThunksFrom2 : Job → Outcome → Type 0
+GivesThunksFrom2 job outcome = (asked : Asked) → asked_of job ≡ Some asked → 2 ≤ asked.number → GivesThunks asked outcome

@@ -1,8 +1,11 @@
 //! The card `fib`.
 
-ghost use Rattle.std.specs.Prelude.{◌≡◌, IfOk, bytes_eq};
+ghost use Rattle.std.specs.Prelude.{◌≡◌, ◌≤◌, IfOk, OnOk, bytes_eq};
+ghost use Rattle.std.specs.List.{AllByRecursion};
 ghost use Rattle.std.specs.Cmp.Lexicographic.{pointwise};
-ghost use Rattle.tool_text.specs.Fib.{add_name, asked_of, contents_of, fib_outcome, fib_outputs, index_of, value_name};
+ghost use Rattle.object_name.specs.declared.kind.Kind.TheVariants as kinds;
+ghost use Rattle.thunk_codec.specs.Thunk.{IsThunk};
+ghost use Rattle.tool_text.specs.Fib.{GivesThunksFrom2, add_name, asked_of, contents_of, fib_outcome, fib_outputs, index_of, thunks_of, value_name};
 
 use crate::fib_thunks::{Asked, thunk_texts};
 use crate::numbers::number_line;
@@ -81,7 +84,8 @@ fn asked_of(job: &Job) -> Option<Asked>
 
 /// The outputs of what is asked for.
 fn contents_of(alloc: Global, asked: &Asked) -> Result<Many<Bytes>, AllocError>
-    ensures { IfOk result (λ contents. contents ≡ contents_of asked.now) }
+    ensures contents { IfOk result (λ contents. contents ≡ contents_of asked.now) }
+    ensures rules { OnOk result (2 ≤ asked.now.number → asked.now.function.kind ≡ kinds.Value → asked.now.add.kind ≡ kinds.Value → AllByRecursion IsThunk (thunks_of asked.now)) }
 {
     if asked.number > 1 {
         return thunk_texts(alloc, asked);
@@ -95,7 +99,8 @@ fn contents_of(alloc: Global, asked: &Asked) -> Result<Many<Bytes>, AllocError>
 
 /// The outcome of a job of the card `fib`.
 pub fn fib(alloc: Global, job: &Job) -> Result<Outcome, AllocError>
-    ensures { IfOk result (λ outcome. outcome ≡ fib_outcome job.now) }
+    ensures exact { IfOk result (λ outcome. outcome ≡ fib_outcome job.now) }
+    ensures thunks { IfOk result (GivesThunksFrom2 job.now) }
 {
     match asked_of(job) {
         Some(asked) => Ok(Outcome::Done(contents_of(alloc, &asked)?)),
