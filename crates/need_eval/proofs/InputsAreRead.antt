@@ -1,10 +1,11 @@
 -- Going through a list by a piece that only reads.
 use Rattle.std.proofs.Common.{◌≡◌, ◌≤◌, ◌<◌, ◌+◌, ℕ, suc, List, [], ◌∷◌, ◌++◌, length, drop, get_or, sym, ap, subst, ◌∙◌, add-one}
 use Rattle.std.proofs.Math.Seq.{drop-cons, drop-length}
-use Rattle.blob_store.specs.Store.{Store}
+use Rattle.object_name.specs.Causes.{TriesAtMost}
+use Rattle.blob_store.specs.Store.{Store, Write}
 use Rattle.need_eval.specs.declared.fault.EvalFault.{EvalFault}
 use Rattle.need_eval.specs.Eval.{State, Ended, Got, Eval, ◌>>=◌, give, each}
-use Rattle.need_eval.specs.StepContracts.{StopsReading}
+use Rattle.need_eval.specs.StepContracts.{StopsReading, kept_in}
 use Rattle.need_eval.proofs.EachGoesOn.{IsLeft, IsLeft-start, IsLeft-more, IsLeft-end}
 use Rattle.need_eval.proofs.ReadingStops.{StopsReading-go_on}
 
@@ -13,9 +14,11 @@ abbrev pub AreLeft : {A B : Type 0} → (A → Eval B) → List A → List B →
 AreLeft f xs read i s = IsLeft f (each f xs s) read (drop i xs) s
 
 -- the keeper has what it had, and the first of some are read
-pub record HasRead {K A B : Type 0} (tells : Type 0) (store : K → Store) (faults : K → ℕ) (f : A → Eval B) (xs : List A) (old now : K) (i : ℕ) (read : List B) : Type 0 where
+pub record HasRead {K A B : Type 0} (tells : Type 0) (store : K → Store) (writes : K → List Write) (faults calls : K → ℕ) (retries : ℕ) (f : A → Eval B) (xs : List A) (old now : K) (i : ℕ) (read : List B) : Type 0 where
   pub same : tells → store now ≡ store old
+  pub list : tells → writes now ≡ writes old
   pub later : faults old ≤ faults now
+  pub tried : tells → TriesAtMost retries calls faults old now 0
   pub left : tells → (s : State) → s.store ≡ store old → AreLeft f xs read i s
 
 module _ {A B : Type 0} (f : A → Eval B) (xs : List A) where
@@ -36,11 +39,11 @@ module _ {A B : Type 0} (f : A → Eval B) (xs : List A) where
         (IsLeft-more f (each f xs s) read x (drop (suc i) xs) y s s one (AreLeft-next left))
 
     -- the next one stops the whole
-    pub AreLeft-stop : (fault : EvalFault) → StopsReading (f x s) s.store fault → AreLeft f xs read i s → StopsReading (each f xs s) s.store fault
+    pub AreLeft-stop : (fault : EvalFault) → StopsReading (f x s) (kept_in s) fault → AreLeft f xs read i s → StopsReading (each f xs s) (kept_in s) fault
     AreLeft-stop fault stops left =
-        subst (λ (e : Ended (List B)). StopsReading e s.store fault) (sym (AreLeft-next left))
-        (StopsReading-go_on (λ ys. give (read ++ ys)) (each f (x ∷ drop (suc i) xs) s) s.store fault
-        (StopsReading-go_on (λ y. each f (drop (suc i) xs) >>= λ ys. give (y ∷ ys)) (f x s) s.store fault stops))
+        subst (λ (e : Ended (List B)). StopsReading e (kept_in s) fault) (sym (AreLeft-next left))
+        (StopsReading-go_on (λ ys. give (read ++ ys)) (each f (x ∷ drop (suc i) xs) s) (kept_in s) fault
+        (StopsReading-go_on (λ y. each f (drop (suc i) xs) >>= λ ys. give (y ∷ ys)) (f x s) (kept_in s) fault stops))
 
   -- all are read
   pub AreLeft-end : (read : List B) (i : ℕ) (s : State) → i ≡ length xs → AreLeft f xs read i s → each f xs s ≡ Got read s

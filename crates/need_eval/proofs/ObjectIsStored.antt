@@ -3,12 +3,12 @@ use Rattle.std.proofs.Common.{◌≡◌, inl, inr, ℕ, List, [], ◌∷◌, ◌
 use Rattle.std.specs.Prelude.{is_some, option_and_then, bytes_eq, if◌then◌else◌}
 use Rattle.object_name.specs.Name.{ObjectName, name_of}
 use Rattle.blob_store.specs.Store.{Store, Write, after_write, other_held, own_write, storing}
-use Rattle.blob_store.specs.Keeping.{MayStore, Stores, Clashes, StoresAs, ShowsClash, StoreCause}
+use Rattle.blob_store.specs.Keeping.{Kept, MayStore, Stores, Clashes, StoresAs, ListsStored, ShowsClash, StoreCause}
 use Rattle.blob_store.specs.declared.storing.StoreFault.{StoreFault}
 use Rattle.blob_store.specs.declared.storing.StoreFault.TheVariants as stores
 use Rattle.need_eval.specs.Eval.{State, Clash, Got, Stopped, Eval, go_on, ◌>>=◌, give, each, make_write}
 use Rattle.need_eval.specs.Evaluation.{no_clash, store_one}
-use Rattle.need_eval.specs.WritePrefix.{state_after, IsWritePrefix, StopsWith, Stops}
+use Rattle.need_eval.specs.WritePrefix.{state_after, IsAt, StopsPartWay, StopsWith, Stops}
 use Rattle.need_eval.specs.StepContracts.{KeeperCause, fault_of_store}
 use Rattle.need_eval.specs.WriteContracts.{Puts, after_writes}
 use Rattle.need_eval.proofs.KeptRelations.{keeps-store_one}
@@ -56,35 +56,46 @@ module _ (bytes : List ℕ) (s : State) where
     store = same;
   }
 
-  store_one-may : (now : Store) → MayStore s.store bytes now → IsWritePrefix s (store_one bytes s) now
-  store_one-may now (inl same) = part_way-unwritten s (store_one bytes s) now (keeps-store_one Grows Grows-kept Grows-write bytes s) same
-  store_one-may now (inr stored) =
+  -- a clash comes before anything is written
+  clash-writes : (found : List ℕ) → other_held s.store bytes ≡ Some found → s.writes ≡ (state_after (store_one bytes s)).writes
+  clash-writes found other = sym (ap (λ found. (state_after (go_on (no_clash bytes found s) after_check)).writes) other)
+
+  store_one-may : (first : List Write) (now : Kept) → MayStore s.store bytes now.store → now.writes ≡ first ++ s.writes → StopsPartWay first s (store_one bytes s) now
+  store_one-may first now (inl same) list = part_way-unwritten first s (store_one bytes s) now (keeps-store_one Grows Grows-kept Grows-write bytes s) (record { store = sym same; list = list })
+  store_one-may first now (inr stored) list =
       let none : other_held s.store bytes ≡ None = ap (λ found. option_and_then (λ found. if bytes_eq found bytes then None else Some found) found) stored.free in
       let one : storing s.store bytes ≡ own_write bytes ∷ [] = ap (λ (found : Option (List ℕ)). if is_some found then [] else own_write bytes ∷ []) stored.free in
       record {
-        prefix = own_write bytes ∷ [];
-        others = [];
-        list = ap (λ e. (state_after e).writes) (store_one-free none) ∙ ap (λ writes. s.writes ++ writes) one;
-        kept = stored.made;
+        part = record {
+          prefix = own_write bytes ∷ [];
+          others = [];
+          list = ap (λ e. (state_after e).writes) (store_one-free none) ∙ ap (λ writes. s.writes ++ writes) one;
+          kept = stored.made;
+        };
+        listed = inr (record { front = []; last = own_write bytes; split = refl; list = list ∙ sym (append-nil (first ++ s.writes)) });
       }
 
 -- what storing did is what the definition gives
-pub kept_puts : (bytes : List ℕ) (old now : Store) (name : ObjectName) → name ≡ name_of bytes → Stores old bytes now → Puts (store_one bytes) name old now
-kept_puts bytes old now name named stored = record {
-  made = storing old bytes;
+pub kept_puts : (bytes : List ℕ) (old now : Kept) (name : ObjectName) → name ≡ name_of bytes → Stores old.store bytes now.store → now.writes ≡ old.writes ++ storing old.store bytes → Puts (store_one bytes) name old now
+kept_puts bytes old now name named stored list = record {
+  made = storing old.store bytes;
   put = stored.made;
+  list = list;
   does = λ s same.
       let none : other_held s.store bytes ≡ None = subst (λ (store : Store). other_held store bytes ≡ None) (sym same) stored.no_other in
       store_one-free bytes s none ∙ λ i. Got (sym named i) (after_writes s (storing (same i) bytes));
 }
 
 -- and so is where it stopped
-pub kept_stops : (bytes : List ℕ) (s : State) (old now : Store) (fault : StoreFault) → s.store ≡ old → StoresAs old bytes now (Err fault) → ShowsClash bytes (Err fault) → Stops s (store_one bytes s) now (fault_of_store fault)
-kept_stops bytes s old now (stores.Clash name found fresh) same h shows =
-    let here : Clashes s.store bytes now found = subst (λ (store : Store). Clashes store bytes now found) (sym same) h in
-    store_one-clash bytes s now name found fresh here.other (sym shows.1.second ∙ ap name_of shows.0) shows.0 here.same
-kept_stops bytes s old now stores.Failed same h shows = store_one-may bytes s now (subst (λ (store : Store). MayStore store bytes now) (sym same) h)
-kept_stops bytes s old now stores.Memory same h shows = store_one-may bytes s now (subst (λ (store : Store). MayStore store bytes now) (sym same) h)
+pub kept_stops : (bytes : List ℕ) (first : List Write) (s : State) (old now : Kept) (fault : StoreFault) → IsAt first s old → StoresAs old.store bytes now.store (Err fault) → ListsStored old.store bytes old.writes now.writes (Err fault) → ShowsClash bytes (Err fault) → Stops first s (store_one bytes s) now (fault_of_store fault)
+kept_stops bytes first s old now (stores.Clash name found fresh) at h list shows =
+    let here : Clashes s.store bytes now.store found = subst (λ (store : Store). Clashes store bytes now.store found) (sym at.store) h in
+    let stops = store_one-clash bytes s now.store name found fresh here.other (sym shows.1.second ∙ ap name_of shows.0) shows.0 here.same in
+    (stops, list ∙ at.list ∙ ap (λ (writes : List Write). first ++ writes) (clash-writes bytes s found here.other))
+kept_stops bytes first s old now stores.Failed at h list shows =
+    store_one-may bytes s first now (subst (λ (store : Store). MayStore store bytes now.store) (sym at.store) h) (list ∙ at.list)
+kept_stops bytes first s old now stores.Memory at h list shows =
+    store_one-may bytes s first now (subst (λ (store : Store). MayStore store bytes now.store) (sym at.store) h) (list ∙ at.list)
 
 -- what a fault shows
 pub kept_cause : (bytes : List ℕ) (retries before after : ℕ) (fault : StoreFault) → StoreCause retries before after (Err fault) → ShowsClash bytes (Err fault) → KeeperCause retries before after (fault_of_store fault)

@@ -13,7 +13,7 @@ use Rattle.thunk_codec.specs.declared.job.Outcome.{Outcome}
 use Rattle.thunk_codec.specs.Thunk.{Parts, text_of}
 use Rattle.thunk_codec.specs.Resolved.{refs_of, resolved_by}
 use Rattle.thunk_codec.specs.Job.{resolved_size, max_job}
-use Rattle.blob_store.specs.Store.{Store}
+use Rattle.blob_store.specs.Keeping.{Kept}
 use Rattle.reduction_cache.specs.Hit.{hit_of}
 use Rattle.need_eval.specs.declared.fault.Refusal.TheVariants.{NoOutput, TooBig}
 use Rattle.need_eval.specs.declared.fault.EvalFault.{EvalFault}
@@ -40,8 +40,8 @@ abbrev pub asked_for : Job → State → State
 asked_for job s = record s { asked = s.asked ++ job ∷ [] }
 
 -- an evaluation stops so where one that ends as it does stops so
-StopsReading-of : {A : Type 0} (e d : Ended A) (store : Store) (fault : EvalFault) → e ≡ d → StopsReading d store fault → StopsReading e store fault
-StopsReading-of e d store fault is h = subst (λ e. StopsReading e store fault) (sym is) h
+StopsReading-of : {A : Type 0} (e d : Ended A) (at : Kept) (fault : EvalFault) → e ≡ d → StopsReading d at fault → StopsReading e at fault
+StopsReading-of e d at fault is h = subst (λ e. StopsReading e at fault) (sym is) h
 
 -- what follows what follows
 then-then : {A B C : Type 0} (e : Ended A) (f : A → Eval B) (g : B → Eval C) → go_on (go_on e f) g ≡ go_on e (λ x. f x >>= g)
@@ -93,10 +93,10 @@ module _ (answer : ℕ → Job → Option Outcome) (budget : ℕ) where
       ∙ ap (λ (after : ObjectName → Eval (List ObjectName)). go_on (value_of answer budget r s) after) (λ i value t. sym (resume-is frames (done ++ value ∷ []) rest t) i)
 
   -- the next stops
-  stops-next : (frames : List Frame) (done : List ObjectName) (r : Ref) (rest : List Ref) (s : State) (store : Store) (fault : EvalFault) → StopsReading (value_of answer budget r s) store fault → StopsReading (resume answer budget frames done (r ∷ rest) s) store fault
-  stops-next frames done r rest s store fault h =
-      StopsReading-of (resume answer budget frames done (r ∷ rest) s) (go_on (value_of answer budget r s) (λ value. resume answer budget frames (done ++ value ∷ []) rest)) store fault (resume-next frames done r rest s)
-      (StopsReading-go_on (λ value. resume answer budget frames (done ++ value ∷ []) rest) (value_of answer budget r s) store fault h)
+  stops-next : (frames : List Frame) (done : List ObjectName) (r : Ref) (rest : List Ref) (s : State) (at : Kept) (fault : EvalFault) → StopsReading (value_of answer budget r s) at fault → StopsReading (resume answer budget frames done (r ∷ rest) s) at fault
+  stops-next frames done r rest s at fault h =
+      StopsReading-of (resume answer budget frames done (r ∷ rest) s) (go_on (value_of answer budget r s) (λ value. resume answer budget frames (done ++ value ∷ []) rest)) at fault (resume-next frames done r rest s)
+      (StopsReading-go_on (λ value. resume answer budget frames (done ++ value ∷ []) rest) (value_of answer budget r s) at fault h)
 
   -- the next gives a value
   gives-next : (frames : List Frame) (done : List ObjectName) (r : Ref) (rest : List Ref) (value : ObjectName) (s t : State) → value_of answer budget r s ≡ Got value t → resume answer budget frames done (r ∷ rest) s ≡ resume answer budget frames (done ++ value ∷ []) rest t
@@ -120,11 +120,11 @@ module _ (answer : ℕ → Job → Option Outcome) (budget : ℕ) where
       gives-next frames done (Value name) rest name s s (value_of-is answer budget (Value name) s ∙ ap (λ e. go_on e (λ _. give name)) held)
 
   -- a value that can't be read
-  pub turn-value-stops : (frames : List Frame) (done : List ObjectName) (name : ObjectName) (rest : List Ref) (s : State) (store : Store) (fault : EvalFault) → StopsReading (object name s) store fault → StopsReading (resume answer budget frames done (Value name ∷ rest) s) store fault
-  turn-value-stops frames done name rest s store fault h =
-      stops-next frames done (Value name) rest s store fault
-      (StopsReading-of (value_of answer budget (Value name) s) (go_on (object name s) (λ _. give name)) store fault (value_of-is answer budget (Value name) s)
-      (StopsReading-go_on (λ _. give name) (object name s) store fault h))
+  pub turn-value-stops : (frames : List Frame) (done : List ObjectName) (name : ObjectName) (rest : List Ref) (s : State) (at : Kept) (fault : EvalFault) → StopsReading (object name s) at fault → StopsReading (resume answer budget frames done (Value name ∷ rest) s) at fault
+  turn-value-stops frames done name rest s at fault h =
+      stops-next frames done (Value name) rest s at fault
+      (StopsReading-of (value_of answer budget (Value name) s) (go_on (object name s) (λ _. give name)) at fault (value_of-is answer budget (Value name) s)
+      (StopsReading-go_on (λ _. give name) (object name s) at fault h))
 
   -- the value of an output
   abbrev pass : ObjectName → Eval ObjectName
@@ -160,18 +160,18 @@ module _ (answer : ℕ → Job → Option Outcome) (budget : ℕ) where
       (value_of-found name index outputs output kinds.Thunk s known found kind ∙ ap (λ e. go_on e (λ _. value_of answer budget (Out output 0))) counted)
 
   -- an output that isn't there
-  pub turn-known-stops : (frames : List Frame) (done : List ObjectName) (name : ObjectName) (index : ℕ) (rest : List Ref) (outputs : List ObjectName) (s : State) (store : Store) (fault : EvalFault) → s.reduced name ≡ Some outputs → StopsReading (pick name index outputs s) store fault → StopsReading (resume answer budget frames done (Out name index ∷ rest) s) store fault
-  turn-known-stops frames done name index rest outputs s store fault known h =
-      stops-next frames done (Out name index) rest s store fault
-      (StopsReading-of (value_of answer budget (Out name index) s) (go_on (pick name index outputs s) pass) store fault (value_of-known name index outputs s known)
-      (StopsReading-go_on pass (pick name index outputs s) store fault h))
+  pub turn-known-stops : (frames : List Frame) (done : List ObjectName) (name : ObjectName) (index : ℕ) (rest : List Ref) (outputs : List ObjectName) (s : State) (at : Kept) (fault : EvalFault) → s.reduced name ≡ Some outputs → StopsReading (pick name index outputs s) at fault → StopsReading (resume answer budget frames done (Out name index ∷ rest) s) at fault
+  turn-known-stops frames done name index rest outputs s at fault known h =
+      stops-next frames done (Out name index) rest s at fault
+      (StopsReading-of (value_of answer budget (Out name index) s) (go_on (pick name index outputs s) pass) at fault (value_of-known name index outputs s known)
+      (StopsReading-go_on pass (pick name index outputs s) at fault h))
 
   -- one which is a thunk, and no step is left
-  pub turn-known-spent : (frames : List Frame) (done : List ObjectName) (name : ObjectName) (index : ℕ) (rest : List Ref) (outputs : List ObjectName) (output : ObjectName) (s : State) (store : Store) (fault : EvalFault) → s.reduced name ≡ Some outputs → pick name index outputs s ≡ Got output s → output.kind ≡ kinds.Thunk → StopsReading (count_step budget output s) store fault → StopsReading (resume answer budget frames done (Out name index ∷ rest) s) store fault
-  turn-known-spent frames done name index rest outputs output s store fault known found kind h =
-      stops-next frames done (Out name index) rest s store fault
-      (StopsReading-of (value_of answer budget (Out name index) s) (go_on (count_step budget output s) (λ _. value_of answer budget (Out output 0))) store fault (value_of-found name index outputs output kinds.Thunk s known found kind)
-      (StopsReading-go_on (λ _. value_of answer budget (Out output 0)) (count_step budget output s) store fault h))
+  pub turn-known-spent : (frames : List Frame) (done : List ObjectName) (name : ObjectName) (index : ℕ) (rest : List Ref) (outputs : List ObjectName) (output : ObjectName) (s : State) (at : Kept) (fault : EvalFault) → s.reduced name ≡ Some outputs → pick name index outputs s ≡ Got output s → output.kind ≡ kinds.Thunk → StopsReading (count_step budget output s) at fault → StopsReading (resume answer budget frames done (Out name index ∷ rest) s) at fault
+  turn-known-spent frames done name index rest outputs output s at fault known found kind h =
+      stops-next frames done (Out name index) rest s at fault
+      (StopsReading-of (value_of answer budget (Out name index) s) (go_on (count_step budget output s) (λ _. value_of answer budget (Out output 0))) at fault (value_of-found name index outputs output kinds.Thunk s known found kind)
+      (StopsReading-go_on (λ _. value_of answer budget (Out output 0)) (count_step budget output s) at fault h))
 
   -- a thunk that wasn't reduced is entered
   pub turn-enter : (frames : List Frame) (done : List ObjectName) (name : ObjectName) (index : ℕ) (rest : List Ref) (s : State) (t : Parts) (u : State) (frame : Frame) → s.reduced name ≡ None → entered budget name index s ≡ Got t u → frame.name ≡ name → frame.index ≡ index → frame.thunk ≡ t → frame.outer.done ≡ done → frame.outer.rest.items ≡ rest → resume answer budget frames done (Out name index ∷ rest) s ≡ resume answer budget (frame ∷ frames) [] (refs_of t) u
@@ -184,13 +184,13 @@ module _ (answer : ℕ → Job → Option Outcome) (budget : ℕ) where
       ∙ sym (resume-is (frame ∷ frames) [] (refs_of t) u)
 
   -- one that can't be entered
-  pub turn-enter-stops : (frames : List Frame) (done : List ObjectName) (name : ObjectName) (index : ℕ) (rest : List Ref) (s : State) (store : Store) (fault : EvalFault) → s.reduced name ≡ None → StopsReading (entered budget name index s) store fault → StopsReading (resume answer budget frames done (Out name index ∷ rest) s) store fault
-  turn-enter-stops frames done name index rest s store fault new h =
-      stops-next frames done (Out name index) rest s store fault
-      (StopsReading-of (value_of answer budget (Out name index) s) (go_on (go_on (go_on (entered budget name index s) (after_entering name)) (pick name index)) pass) store fault (value_of-new name index s new)
-      (StopsReading-go_on pass (go_on (go_on (entered budget name index s) (after_entering name)) (pick name index)) store fault
-      (StopsReading-go_on (pick name index) (go_on (entered budget name index s) (after_entering name)) store fault
-      (StopsReading-go_on (after_entering name) (entered budget name index s) store fault h))))
+  pub turn-enter-stops : (frames : List Frame) (done : List ObjectName) (name : ObjectName) (index : ℕ) (rest : List Ref) (s : State) (at : Kept) (fault : EvalFault) → s.reduced name ≡ None → StopsReading (entered budget name index s) at fault → StopsReading (resume answer budget frames done (Out name index ∷ rest) s) at fault
+  turn-enter-stops frames done name index rest s at fault new h =
+      stops-next frames done (Out name index) rest s at fault
+      (StopsReading-of (value_of answer budget (Out name index) s) (go_on (go_on (go_on (entered budget name index s) (after_entering name)) (pick name index)) pass) at fault (value_of-new name index s new)
+      (StopsReading-go_on pass (go_on (go_on (entered budget name index s) (after_entering name)) (pick name index)) at fault
+      (StopsReading-go_on (pick name index) (go_on (entered budget name index s) (after_entering name)) at fault
+      (StopsReading-go_on (after_entering name) (entered budget name index s) at fault h))))
 
   -- the innermost thunk is left
   pub turn-leave-ends : (inner : Frame) (outer : List Frame) (done : List ObjectName) (s : State) → resume answer budget (inner ∷ outer) done [] s ≡ go_on (reduce answer inner.name (resolved_by inner.thunk done) s) (after_leaving inner outer)
@@ -208,10 +208,10 @@ module _ (answer : ℕ → Job → Option Outcome) (budget : ℕ) where
       ∙ sym (resume-next outer inner.outer.done (Out inner.name inner.index) inner.outer.rest.items t)
 
   -- it has no outputs
-  pub turn-leave-stops : (inner : Frame) (outer : List Frame) (done : List ObjectName) (s : State) (store : Store) (fault : EvalFault) → StopsReading (reduce answer inner.name (resolved_by inner.thunk done) s) store fault → StopsReading (resume answer budget (inner ∷ outer) done [] s) store fault
-  turn-leave-stops inner outer done s store fault h =
-      StopsReading-of (resume answer budget (inner ∷ outer) done [] s) (go_on (reduce answer inner.name (resolved_by inner.thunk done) s) (after_leaving inner outer)) store fault (turn-leave-ends inner outer done s)
-      (StopsReading-go_on (after_leaving inner outer) (reduce answer inner.name (resolved_by inner.thunk done) s) store fault h)
+  pub turn-leave-stops : (inner : Frame) (outer : List Frame) (done : List ObjectName) (s : State) (at : Kept) (fault : EvalFault) → StopsReading (reduce answer inner.name (resolved_by inner.thunk done) s) at fault → StopsReading (resume answer budget (inner ∷ outer) done [] s) at fault
+  turn-leave-stops inner outer done s at fault h =
+      StopsReading-of (resume answer budget (inner ∷ outer) done [] s) (go_on (reduce answer inner.name (resolved_by inner.thunk done) s) (after_leaving inner outer)) at fault (turn-leave-ends inner outer done s)
+      (StopsReading-go_on (after_leaving inner outer) (reduce answer inner.name (resolved_by inner.thunk done) s) at fault h)
 
 module _ (answer : ℕ → Job → Option Outcome) where
   -- what follows when the outputs are there
@@ -261,11 +261,11 @@ module _ (answer : ℕ → Job → Option Outcome) where
   reduce-stands name t job s small miss built answers = reduce-built name t job None s small miss built answers
 
   -- what its job is made of can't be read
-  pub reduce-job-stops : (name : ObjectName) (t : Parts) (s : State) (store : Store) (fault : EvalFault) → resolved_size t ≤ max_job → hit_of s.store (name_of (text_of t)) (length t.outputs) ≡ None → StopsReading (job_of t s) store fault → StopsReading (reduce answer name t s) store fault
-  reduce-job-stops name t s store fault small miss h =
-      StopsReading-of (reduce answer name t s) (by_hit name t None s) store fault (reduce-small name t None s small miss)
-      (StopsReading-go_on (keep_marked name) (go_on (job_of t s) (with_job name t)) store fault
-      (StopsReading-go_on (with_job name t) (job_of t s) store fault h))
+  pub reduce-job-stops : (name : ObjectName) (t : Parts) (s : State) (at : Kept) (fault : EvalFault) → resolved_size t ≤ max_job → hit_of s.store (name_of (text_of t)) (length t.outputs) ≡ None → StopsReading (job_of t s) at fault → StopsReading (reduce answer name t s) at fault
+  reduce-job-stops name t s at fault small miss h =
+      StopsReading-of (reduce answer name t s) (by_hit name t None s) at fault (reduce-small name t None s small miss)
+      (StopsReading-go_on (keep_marked name) (go_on (job_of t s) (with_job name t)) at fault
+      (StopsReading-go_on (with_job name t) (job_of t s) at fault h))
 
 -- a thunk that is reduced is known
 pub marked-reduced : (name : ObjectName) (outputs : List ObjectName) (s : State) → (marked name outputs s).reduced name ≡ Some outputs

@@ -1,5 +1,5 @@
 -- What is left of an evaluation after the outcome of a job.
-use Rattle.std.proofs.Common.{◌≡◌, ℕ, List, [], ◌∷◌, ◌++◌, length, drop, Option, Some, refl, sym, ap, subst, ◌∙◌, append-nil}
+use Rattle.std.proofs.Common.{◌≡◌, inl, ℕ, List, [], ◌∷◌, ◌++◌, length, drop, Option, Some, refl, sym, ap, subst, ◌∙◌, append-nil}
 use Rattle.std.specs.Prelude.{if◌then◌else◌, IfSome, IsSome, None}
 use Rattle.std.specs.Option.{option_map}
 use Rattle.std.specs.Ordering.{eq_by_cmp}
@@ -8,7 +8,8 @@ use Rattle.thunk_codec.specs.declared.reference.Ref.TheVariants.{Out}
 use Rattle.thunk_codec.specs.declared.job.Job.{Job}
 use Rattle.thunk_codec.specs.declared.job.Outcome.{Outcome}
 use Rattle.thunk_codec.specs.Thunk.{Parts}
-use Rattle.blob_store.specs.Store.{Store, Write, written}
+use Rattle.blob_store.specs.Keeping.{Kept}
+use Rattle.blob_store.specs.Store.{Write, written}
 use Rattle.need_eval.specs.declared.fault.EvalFault.{EvalFault}
 use Rattle.need_eval.specs.declared.fault.EvalFault.TheVariants as faults
 use Rattle.need_eval.specs.declared.frame.Frame.{Frame}
@@ -19,7 +20,7 @@ use Rattle.need_eval.specs.declared.walker.Walker.{Walker}
 use Rattle.need_eval.specs.Eval.{State, Ended, Got, Eval, go_on, ◌>>=◌, give, mark}
 use Rattle.need_eval.specs.Evaluation.{finished, reduce}
 use Rattle.need_eval.specs.Machine.{resume}
-use Rattle.need_eval.specs.WritePrefix.{state_after, IsWritePrefix, Stops}
+use Rattle.need_eval.specs.WritePrefix.{state_after, IsAt, StopsPartWay, Stops}
 use Rattle.need_eval.specs.WriteContracts.{Puts, after_writes}
 use Rattle.need_eval.specs.WalkerInvariant.{waiting_in}
 use Rattle.need_eval.specs.Walking.{walking, left, reduced_at, innermost, StandsAt, Supplied}
@@ -53,12 +54,15 @@ leaves-as w after outputs leaves inner outer frames =
     }
 
 -- what was put in is a prefix of all writes
-puts-prefix : {A : Type 0} (m : Eval A) (x : A) (old now : Store) → Puts m x old now → (s : State) → s.store ≡ old → IsWritePrefix s (m s) now
-puts-prefix m x old now puts s same = record {
-  prefix = puts.made;
-  others = [];
-  list = ap (λ e. (state_after e).writes) (puts.does s same) ∙ ap (λ writes. s.writes ++ writes) (sym (append-nil puts.made));
-  kept = puts.put ∙ ap (λ store. written store puts.made) (sym same);
+puts-prefix : {A : Type 0} (m : Eval A) (x : A) (old now : Kept) → Puts m x old now → (first : List Write) (s : State) → IsAt first s old → StopsPartWay first s (m s) now
+puts-prefix m x old now puts first s at = record {
+  part = record {
+    prefix = puts.made;
+    others = [];
+    list = ap (λ e. (state_after e).writes) (puts.does s at.store) ∙ ap (λ writes. s.writes ++ writes) (sym (append-nil puts.made));
+    kept = puts.put ∙ ap (λ store. written store puts.made) (sym at.store);
+  };
+  listed = inl (puts.list ∙ ap (λ (writes : List Write). writes ++ puts.made) at.list);
 }
 
 -- what holds of the job that is waited for
@@ -73,7 +77,7 @@ pub some-waiting : (found : Option Waiting) → IsSome (option_map (λ (waiting 
 some-waiting (Some waiting) some = refl
 some-waiting None some = some
 
-module _ (w : Walker) (store : Store) (p : Prepared) (outcome : Outcome) (stands : StandsAt w store p) where
+module _ (w : Walker) (old : Kept) (p : Prepared) (outcome : Outcome) (stands : StandsAt w old.store p) where
   -- the resolved thunk, and its name
   abbrev pub whole : Parts
   whole = innermost stands.inner w.level.done
@@ -83,7 +87,7 @@ module _ (w : Walker) (store : Store) (p : Prepared) (outcome : Outcome) (stands
 
   module _ (answer : ℕ → Job → Option Outcome) (writes : List Write) (asked : List Job) (answers : answer (length asked) p.job ≡ Some outcome) where
     abbrev here : State
-    here = walking w store writes asked
+    here = walking w old.store writes asked
 
     abbrev then_marked : List ObjectName → Eval (List ObjectName)
     then_marked outputs = mark stands.inner.name outputs >>= λ _. give outputs
@@ -95,29 +99,29 @@ module _ (w : Walker) (store : Store) (p : Prepared) (outcome : Outcome) (stands
     runs = reduce-run answer stands.inner.name whole p.job outcome here stands.small stands.no_hit (stands.job here refl) answers
 
     -- the writing fails
-    pub supplies-stops : (now : Store) (fault : EvalFault) → ((s : State) → s.store ≡ store → Stops s (finished stands.inner.name whole outcome s) now fault) → Stops here (left answer w here) now fault
-    supplies-stops now fault stops =
+    pub supplies-stops : (now : Kept) (fault : EvalFault) → ((first : List Write) (s : State) → IsAt first s old → Stops first s (finished stands.inner.name whole outcome s) now fault) → (first : List Write) → old.writes ≡ first ++ writes → Stops first here (left answer w here) now fault
+    supplies-stops now fault stops first list =
         let u = asked_for p.job here in
-        let part : Stops u (go_on (finished stands.inner.name whole outcome u) then_marked) now fault =
-        Stops-on u (finished stands.inner.name whole outcome u) then_marked now fault (λ outputs s. Grows-stay s _ refl refl) (stops u refl) in
-        let reduced : Stops u (reduce answer stands.inner.name whole here) now fault = subst (λ (e : Ended (List ObjectName)). Stops u e now fault) (sym runs) part in
-        subst (λ (e : Ended (List ObjectName)). Stops here e now fault) (sym at-inner)
-        (turn-leave-faults answer w.budget stands.inner stands.outer w.level.done here now fault
-        (Stops-earlier here u (reduce answer stands.inner.name whole here) now fault (Grows-stay here u refl refl) reduced))
+        let part : Stops first u (go_on (finished stands.inner.name whole outcome u) then_marked) now fault =
+        Stops-on first u (finished stands.inner.name whole outcome u) then_marked now fault (λ outputs s. Grows-stay s _ refl refl) (stops first u (record { store = refl; list = list })) in
+        let reduced : Stops first u (reduce answer stands.inner.name whole here) now fault = subst (λ (e : Ended (List ObjectName)). Stops first u e now fault) (sym runs) part in
+        subst (λ (e : Ended (List ObjectName)). Stops first here e now fault) (sym at-inner)
+        (turn-leave-faults answer w.budget stands.inner stands.outer w.level.done first here now fault
+        (Stops-earlier first here u (reduce answer stands.inner.name whole here) now fault (Grows-stay here u refl refl) reduced))
 
     -- all is written, and then memory is wanted
-    pub supplies-prefix : (outputs : List ObjectName) (now : Store) → Puts (finished stands.inner.name whole outcome) outputs store now → IsWritePrefix here (left answer w here) now
-    supplies-prefix outputs now puts = supplies-stops now faults.Memory (puts-prefix (finished stands.inner.name whole outcome) outputs store now puts)
+    pub supplies-prefix : (outputs : List ObjectName) (now : Kept) → Puts (finished stands.inner.name whole outcome) outputs old now → (first : List Write) → old.writes ≡ first ++ writes → StopsPartWay first here (left answer w here) now
+    supplies-prefix outputs now puts = supplies-stops now faults.Memory (puts-prefix (finished stands.inner.name whole outcome) outputs old now puts)
 
     -- all is written, and the thunk is left
-    goes : (after : Walker) (outputs : List ObjectName) (now : Store) (puts : Puts (finished stands.inner.name whole outcome) outputs store now) → after.budget ≡ w.budget → Leaves w after outputs → left answer w here ≡ left answer after (walking after now (writes ++ puts.made) (asked ++ p.job ∷ []))
+    goes : (after : Walker) (outputs : List ObjectName) (now : Kept) (puts : Puts (finished stands.inner.name whole outcome) outputs old now) → after.budget ≡ w.budget → Leaves w after outputs → left answer w here ≡ left answer after (walking after now.store (writes ++ puts.made) (asked ++ p.job ∷ []))
     unfolding leaves-as
     goes after outputs now puts budget leaves =
         let there = leaves-as w after outputs leaves stands.inner stands.outer stands.frames in
         let u = after_writes (asked_for p.job here) puts.made in
         let last = marked stands.inner.name outputs u in
         let reduced : reduce answer stands.inner.name whole here ≡ Got outputs last = runs ∙ ap (λ e. go_on e then_marked) (puts.does (asked_for p.job here) refl) in
-        let states : last ≡ walking after now (writes ++ puts.made) (asked ++ p.job ∷ []) = λ i. record {
+        let states : last ≡ walking after now.store (writes ++ puts.made) (asked ++ p.job ∷ []) = λ i. record {
           store = sym puts.put i;
           reduced = λ other. sym (there.reduced other) i;
           steps = sym there.steps i;
@@ -128,9 +132,10 @@ module _ (w : Walker) (store : Store) (p : Prepared) (outcome : Outcome) (stands
         ∙ turn-leave answer w.budget stands.inner stands.outer w.level.done outputs here last reduced (marked-reduced stands.inner.name outputs u)
         ∙ λ i. resume answer (sym budget i) (sym there.left_frames i) (sym there.done i) (sym there.rest i) (states i)
 
-  pub supplied : (after : Walker) (outputs : List ObjectName) (now : Store) → Puts (finished stands.inner.name whole outcome) outputs store now → after.budget ≡ w.budget → Leaves w after outputs → Supplied w after p outcome store now
+  pub supplied : (after : Walker) (outputs : List ObjectName) (now : Kept) → Puts (finished stands.inner.name whole outcome) outputs old now → after.budget ≡ w.budget → Leaves w after outputs → Supplied w after p outcome old now
   supplied after outputs now puts budget leaves = record {
     made = puts.made;
     put = puts.put;
+    list = puts.list;
     goes = λ answer writes asked answers. goes answer writes asked answers after outputs now puts budget leaves;
   }

@@ -20,7 +20,7 @@ use Rattle.need_eval.specs.declared.walker.Walker.{Walker}
 use Rattle.need_eval.specs.Eval.{State, Ended, Got}
 use Rattle.need_eval.specs.Evaluation.{job_of, reduce}
 use Rattle.need_eval.specs.Machine.{resume}
-use Rattle.need_eval.specs.StepContracts.{StopsReading}
+use Rattle.need_eval.specs.StepContracts.{StopsReading, kept_in}
 use Rattle.need_eval.specs.Walking.{walking, left, StandsAt}
 use Rattle.need_eval.specs.TurnContracts.{IsInnermost, Leaves}
 use Rattle.need_eval.proofs.OneTurn.{marked, turn-end, turn-leave, turn-leave-stops, reduce-too-big, reduce-hit, reduce-job-stops, marked-reduced}
@@ -66,19 +66,19 @@ module _ (w : Walker) (store : Store) (answer : ℕ → Job → Option Outcome) 
   at-inner inner outer frames = λ i. resume answer w.budget (frames i) w.level.done (gathered i) here
 
   -- it can't be reduced
-  pub stops-out : (fault : EvalFault) → StopsReading (reduce answer name t here) store fault → StopsReading (left answer w here) store fault
+  pub stops-out : (fault : EvalFault) → StopsReading (reduce answer name t here) (kept_in here) fault → StopsReading (left answer w here) (kept_in here) fault
   stops-out fault h =
-      subst (λ (e : Ended (List ObjectName)). StopsReading e store fault) (sym (at-inner is.inner is.outer is.frames))
-      (turn-leave-stops answer w.budget is.inner is.outer w.level.done here store fault
-      (subst (λ (e : Ended (List ObjectName)). StopsReading e store fault) (λ i. reduce answer (is.named i) (is.resolved i) here) h))
+      subst (λ (e : Ended (List ObjectName)). StopsReading e (kept_in here) fault) (sym (at-inner is.inner is.outer is.frames))
+      (turn-leave-stops answer w.budget is.inner is.outer w.level.done here (kept_in here) fault
+      (subst (λ (e : Ended (List ObjectName)). StopsReading e (kept_in here) fault) (λ i. reduce answer (is.named i) (is.resolved i) here) h))
 
   -- its job is too big
-  pub stops-too-big : max_job < resolved_size t → StopsReading (left answer w here) store (faults.Refused (TooBig name (resolved_size t)))
-  stops-too-big big = stops-out (faults.Refused (TooBig name (resolved_size t))) (record { last = here; stopped = reduce-too-big answer name t here big; store = refl })
+  pub stops-too-big : max_job < resolved_size t → StopsReading (left answer w here) (kept_in here) (faults.Refused (TooBig name (resolved_size t)))
+  stops-too-big big = stops-out (faults.Refused (TooBig name (resolved_size t))) (record { last = here; stopped = reduce-too-big answer name t here big; store = refl; list = refl })
 
   -- what its job is made of can't be read
-  pub stops-at-job : (fault : EvalFault) → resolved_size t ≤ max_job → hit_of store (name_of (text_of t)) (length t.outputs) ≡ None → StopsReading (job_of t here) store fault → StopsReading (left answer w here) store fault
-  stops-at-job fault small miss h = stops-out fault (reduce-job-stops answer name t here store fault small miss h)
+  pub stops-at-job : (fault : EvalFault) → resolved_size t ≤ max_job → hit_of store (name_of (text_of t)) (length t.outputs) ≡ None → StopsReading (job_of t here) (kept_in here) fault → StopsReading (left answer w here) (kept_in here) fault
+  stops-at-job fault small miss h = stops-out fault (reduce-job-stops answer name t here (kept_in here) fault small miss h)
 
   -- its outputs were noted
   pub comes-out : (after : Walker) (outputs : List ObjectName) → resolved_size t ≤ max_job → hit_of store (name_of (text_of t)) (length t.outputs) ≡ Some outputs → after.budget ≡ w.budget → Leaves w after outputs → left answer w here ≡ left answer after (walking after store writes asked)

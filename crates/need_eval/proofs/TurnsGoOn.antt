@@ -17,8 +17,7 @@ use Rattle.need_eval.specs.declared.walker.Walker.{Walker}
 use Rattle.need_eval.specs.Eval.{State, Refused, Ended, Got, go_on, need, check, step}
 use Rattle.need_eval.specs.Evaluation.{object, thunk_at, count_step}
 use Rattle.need_eval.specs.Machine.{resume}
-use Rattle.need_eval.specs.StepContracts.{StopsReading, entry, stepped}
-use Rattle.need_eval.specs.WritePrefix.{StopsWith}
+use Rattle.need_eval.specs.StepContracts.{StopsReading, StopsUnwritten, kept_in, entry, stepped}
 use Rattle.need_eval.specs.Walking.{walking, left, reduced_at}
 use Rattle.need_eval.specs.TurnContracts.{IsOutput}
 use Rattle.need_eval.proofs.ReadingStops.{StopsReading-go_on}
@@ -29,8 +28,8 @@ counted : (budget : ℕ) (name : ObjectName) (s : State) → s.steps < budget �
 counted budget name s has = ap (λ test. go_on (check test (Refused (Spent name budget)) s) (λ _. step)) (lt-ltb s.steps budget has)
 
 -- a step that it hasn't
-pub not-counted : (budget : ℕ) (name : ObjectName) (s : State) → budget ≤ s.steps → StopsWith (Refused (Spent name budget)) (count_step budget name s) s.store
-not-counted budget name s spent = record { last = s; stopped = ap (λ test. go_on (check test (Refused (Spent name budget)) s) (λ _. step)) (le-ltb s.steps budget spent); store = refl }
+pub not-counted : (budget : ℕ) (name : ObjectName) (s : State) → budget ≤ s.steps → StopsUnwritten (Refused (Spent name budget)) (count_step budget name s) (kept_in s)
+not-counted budget name s spent = record { last = s; stopped = ap (λ test. go_on (check test (Refused (Spent name budget)) s) (λ _. step)) (le-ltb s.steps budget spent); store = refl; list = refl }
 
 module _ (w : Walker) (store : Store) (answer : ℕ → Job → Option Outcome) (writes : List Write) (asked : List Job) where
   abbrev pub here : State
@@ -40,8 +39,8 @@ module _ (w : Walker) (store : Store) (answer : ℕ → Job → Option Outcome) 
   at-next : (next : Ref) → w.level.rest.items ≡ next ∷ drop 1 w.level.rest.items → left answer w here ≡ resume answer w.budget w.frames.items w.level.done (next ∷ drop 1 w.level.rest.items) here
   at-next next is = ap (λ (rest : List Ref). resume answer w.budget w.frames.items w.level.done rest here) is
 
-  stops-at-next : (next : Ref) (fault : EvalFault) → w.level.rest.items ≡ next ∷ drop 1 w.level.rest.items → StopsReading (resume answer w.budget w.frames.items w.level.done (next ∷ drop 1 w.level.rest.items) here) store fault → StopsReading (left answer w here) store fault
-  stops-at-next next fault is h = subst (λ (e : Ended (List ObjectName)). StopsReading e store fault) (sym (at-next next is)) h
+  stops-at-next : (next : Ref) (fault : EvalFault) → w.level.rest.items ≡ next ∷ drop 1 w.level.rest.items → StopsReading (resume answer w.budget w.frames.items w.level.done (next ∷ drop 1 w.level.rest.items) here) (kept_in here) fault → StopsReading (left answer w here) (kept_in here) fault
+  stops-at-next next fault is h = subst (λ (e : Ended (List ObjectName)). StopsReading e (kept_in here) fault) (sym (at-next next is)) h
 
   -- a value
   pub onward-value : (name : ObjectName) (done : List ObjectName) (rest : List Ref) (bytes : List ℕ) → w.level.rest.items ≡ Value name ∷ drop 1 w.level.rest.items → done ≡ w.level.done ++ name ∷ [] → rest ≡ drop 1 w.level.rest.items → object name here ≡ Got bytes here → left answer w here ≡ resume answer w.budget w.frames.items done rest here
@@ -50,9 +49,9 @@ module _ (w : Walker) (store : Store) (answer : ℕ → Job → Option Outcome) 
       ∙ turn-value answer w.budget w.frames.items w.level.done name (drop 1 w.level.rest.items) bytes here held
       ∙ λ i. resume answer w.budget w.frames.items (sym dones i) (sym rests i) here
 
-  pub onward-value-stops : (name : ObjectName) (fault : EvalFault) → w.level.rest.items ≡ Value name ∷ drop 1 w.level.rest.items → StopsReading (object name here) store fault → StopsReading (left answer w here) store fault
+  pub onward-value-stops : (name : ObjectName) (fault : EvalFault) → w.level.rest.items ≡ Value name ∷ drop 1 w.level.rest.items → StopsReading (object name here) (kept_in here) fault → StopsReading (left answer w here) (kept_in here) fault
   onward-value-stops name fault is h =
-      stops-at-next (Value name) fault is (turn-value-stops answer w.budget w.frames.items w.level.done name (drop 1 w.level.rest.items) here store fault h)
+      stops-at-next (Value name) fault is (turn-value-stops answer w.budget w.frames.items w.level.done name (drop 1 w.level.rest.items) here (kept_in here) fault h)
 
   module _ (name : ObjectName) (index : ℕ) (is : w.level.rest.items ≡ Out name index ∷ drop 1 w.level.rest.items) where
     -- an output of a thunk that was reduced
@@ -72,16 +71,16 @@ module _ (w : Walker) (store : Store) (answer : ℕ → Job → Option Outcome) 
           ∙ turn-known-thunk answer w.budget w.frames.items w.level.done name index (drop 1 w.level.rest.items) known.outputs output here (stepped here) known.reduced picked kind (counted w.budget output here has)
           ∙ λ i. resume answer w.budget w.frames.items (sym dones i) (sym rests i) (record here { steps = sym stepping i })
 
-      pub onward-spent : (fault : EvalFault) → output.kind ≡ kinds.Thunk → StopsReading (count_step w.budget output here) store fault → StopsReading (left answer w here) store fault
+      pub onward-spent : (fault : EvalFault) → output.kind ≡ kinds.Thunk → StopsReading (count_step w.budget output here) (kept_in here) fault → StopsReading (left answer w here) (kept_in here) fault
       onward-spent fault kind h =
           stops-at-next (Out name index) fault is
-          (turn-known-spent answer w.budget w.frames.items w.level.done name index (drop 1 w.level.rest.items) known.outputs output here store fault known.reduced picked kind h)
+          (turn-known-spent answer w.budget w.frames.items w.level.done name index (drop 1 w.level.rest.items) known.outputs output here (kept_in here) fault known.reduced picked kind h)
 
     -- an output that isn't there
-    pub onward-no-output : (outputs : List ObjectName) (fault : EvalFault) → reduced_at w name ≡ Some outputs → StopsReading (pick name index outputs here) store fault → StopsReading (left answer w here) store fault
+    pub onward-no-output : (outputs : List ObjectName) (fault : EvalFault) → reduced_at w name ≡ Some outputs → StopsReading (pick name index outputs here) (kept_in here) fault → StopsReading (left answer w here) (kept_in here) fault
     onward-no-output outputs fault reduced h =
         stops-at-next (Out name index) fault is
-        (turn-known-stops answer w.budget w.frames.items w.level.done name index (drop 1 w.level.rest.items) outputs here store fault reduced h)
+        (turn-known-stops answer w.budget w.frames.items w.level.done name index (drop 1 w.level.rest.items) outputs here (kept_in here) fault reduced h)
 
     -- a thunk that wasn't reduced
     module _ (fresh : reduced_at w name ≡ None) where
@@ -92,14 +91,14 @@ module _ (w : Walker) (store : Store) (answer : ℕ → Job → Option Outcome) 
           (ap (λ e. go_on e (entry w.budget name index)) read ∙ entering) names indices thunks dones rests
           ∙ λ i. resume answer w.budget (sym framed i) (sym nothing i) (sym wanted i) (record here { steps = sym stepping i })
 
-      pub onward-thunk-stops : (fault : EvalFault) → StopsReading (thunk_at name here) store fault → StopsReading (left answer w here) store fault
+      pub onward-thunk-stops : (fault : EvalFault) → StopsReading (thunk_at name here) (kept_in here) fault → StopsReading (left answer w here) (kept_in here) fault
       onward-thunk-stops fault h =
           stops-at-next (Out name index) fault is
-          (turn-enter-stops answer w.budget w.frames.items w.level.done name index (drop 1 w.level.rest.items) here store fault fresh
-          (StopsReading-go_on (entry w.budget name index) (thunk_at name here) store fault h))
+          (turn-enter-stops answer w.budget w.frames.items w.level.done name index (drop 1 w.level.rest.items) here (kept_in here) fault fresh
+          (StopsReading-go_on (entry w.budget name index) (thunk_at name here) (kept_in here) fault h))
 
-      pub onward-entry-stops : (t : Parts) (fault : EvalFault) → thunk_at name here ≡ Got t here → StopsReading (entry w.budget name index t here) store fault → StopsReading (left answer w here) store fault
+      pub onward-entry-stops : (t : Parts) (fault : EvalFault) → thunk_at name here ≡ Got t here → StopsReading (entry w.budget name index t here) (kept_in here) fault → StopsReading (left answer w here) (kept_in here) fault
       onward-entry-stops t fault read h =
           stops-at-next (Out name index) fault is
-          (turn-enter-stops answer w.budget w.frames.items w.level.done name index (drop 1 w.level.rest.items) here store fault fresh
-          (subst (λ (e : Ended Parts). StopsReading e store fault) (sym (ap (λ e. go_on e (entry w.budget name index)) read)) h))
+          (turn-enter-stops answer w.budget w.frames.items w.level.done name index (drop 1 w.level.rest.items) here (kept_in here) fault fresh
+          (subst (λ (e : Ended Parts). StopsReading e (kept_in here) fault) (sym (ap (λ e. go_on e (entry w.budget name index)) read)) h))

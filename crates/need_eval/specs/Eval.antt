@@ -26,10 +26,12 @@ pub data Stop : Type 0 where
   Clash : ObjectName → List ℕ → List ℕ → Stop
   Stands : List ℕ → Job → Stop
 
+-- an evaluation gave something, or stopped; and the state then
 pub data Ended (A : Type 0) : Type 0 where
   Got : A → State → Ended A
   Stopped : Stop → State → Ended A
 
+-- an evaluation that gives something of this type, if it doesn't stop
 abbrev pub Eval : Type 0 → Type 0
 Eval A = State → Ended A
 
@@ -38,17 +40,21 @@ abbrev pub go_on : {A B : Type 0} → Ended A → (A → Eval B) → Ended B
 go_on (Got x s) f = f x s
 go_on (Stopped why s) f = Stopped why s
 
+-- one evaluation after another, which goes on with what the first gave
 infixl 10 ◌>>=◌
 abbrev pub ◌>>=◌ : {A B : Type 0} → Eval A → (A → Eval B) → Eval B
 m >>= f = λ s. go_on (m s) f
 
+-- one evaluation after another, whatever the first gave
 infixl 10 ◌>>◌
 abbrev pub ◌>>◌ : {A B : Type 0} → Eval A → Eval B → Eval B
 m >> n = m >>= λ _. n
 
+-- gives this, and changes nothing
 abbrev pub give : {A : Type 0} → A → Eval A
 give x = λ s. Got x s
 
+-- stops so
 abbrev pub stop : {A : Type 0} → Stop → Eval A
 stop why = λ s. Stopped why s
 

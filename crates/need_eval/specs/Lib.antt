@@ -10,3 +10,5 @@ pub mod WriteContracts
 pub mod Walk
 pub mod Evaluating
 pub mod Progress
+pub mod MetObjects
+pub mod StopAndAgain

@@ -17,12 +17,12 @@ use Rattle.need_eval.specs.declared.waiting.Waiting.{Waiting}
 use Rattle.need_eval.specs.Eval.{Got}
 use Rattle.need_eval.specs.WalkerInvariant.{is_inside}
 use Rattle.need_eval.specs.Walking.{walking, left, reduced_at, GoesOn, StandsAt}
-use Rattle.need_eval.specs.StepContracts.{StopsReading}
+use Rattle.need_eval.specs.StepContracts.{StopsReading, kept_in}
 
 -- what is left of the evaluation stops so, with any answers
 abbrev pub StopsAt : Walker → Store → EvalFault → Type 0
 StopsAt before store fault = (answer : ℕ → Job → Option Outcome) (writes : List Write) (asked : List Job) →
-    StopsReading (left answer before (walking before store writes asked)) store fault
+    StopsReading (left answer before (walking before store writes asked)) (kept_in (walking before store writes asked)) fault
 
 -- a walker went on, or stops
 abbrev pub Turns : Walker → Walker → Store → Result (Unit {0}) EvalFault → Type 0

@@ -11,6 +11,7 @@ use Rattle.thunk_codec.specs.Thunk.{Parts, text_of}
 use Rattle.thunk_codec.specs.Resolved.{resolved_by}
 use Rattle.thunk_codec.specs.Job.{resolved_size, max_job}
 use Rattle.blob_store.specs.Store.{Store, Write, written}
+use Rattle.blob_store.specs.Keeping.{Kept}
 use Rattle.reduction_cache.specs.Hit.{hit_of}
 use Rattle.need_eval.specs.declared.fault.EvalFault.{EvalFault}
 use Rattle.need_eval.specs.declared.frame.Frame.{Frame}
@@ -24,7 +25,7 @@ use Rattle.need_eval.specs.Evaluation.{job_of}
 use Rattle.need_eval.specs.Machine.{resume}
 use Rattle.need_eval.specs.WalkerInvariant.{waiting_in, is_end}
 use Rattle.need_eval.specs.WritePrefix.{Stops}
-use Rattle.need_eval.specs.StepContracts.{StopsReading}
+use Rattle.need_eval.specs.StepContracts.{StopsReading, kept_in}
 
 -- the outputs of the thunk of this name, where it was reduced
 abbrev pub reduced_at : Walker → ObjectName → Option (List ObjectName)
@@ -106,20 +107,21 @@ Advances before after store (Ok (Ended values)) = (answer : ℕ → Job → Opti
     left answer before (walking before store writes asked) ≡ Got values.names (walking after store writes asked)
 Advances before after store (Ok Blocked) = GoesOn before after store × Waits after store
 Advances before after store (Err fault) = (answer : ℕ → Job → Option Outcome) (writes : List Write) (asked : List Job) →
-    StopsReading (left answer before (walking before store writes asked)) store fault
+    StopsReading (left answer before (walking before store writes asked)) (kept_in (walking before store writes asked)) fault
 
--- with the outcome of its job the evaluation went on, and made these writes
-pub record Supplied (before after : Walker) (p : Prepared) (outcome : Outcome) (old now : Store) : Type 0 where
+-- with the outcome of its job the evaluation went on, and made these writes, each of which was put once
+pub record Supplied (before after : Walker) (p : Prepared) (outcome : Outcome) (old now : Kept) : Type 0 where
   pub made : List Write
-  pub put : now ≡ written old made
+  pub put : now.store ≡ written old.store made
+  pub list : now.writes ≡ old.writes ++ made
   pub goes : (answer : ℕ → Job → Option Outcome) (writes : List Write) (asked : List Job) → answer (length asked) p.job ≡ Some outcome →
-      left answer before (walking before old writes asked) ≡ left answer after (walking after now (writes ++ made) (asked ++ p.job ∷ []))
+      left answer before (walking before old.store writes asked) ≡ left answer after (walking after now.store (writes ++ made) (asked ++ p.job ∷ []))
 
 -- what supplying an outcome did, by its answer
-abbrev pub Supplies : Walker → Walker → Prepared → Outcome → Store → Store → Result (Unit {0}) EvalFault → Type 0
+abbrev pub Supplies : Walker → Walker → Prepared → Outcome → Kept → Kept → Result (Unit {0}) EvalFault → Type 0
 Supplies before after p outcome old now (Ok _) = Supplied before after p outcome old now
 Supplies before after p outcome old now (Err fault) = (answer : ℕ → Job → Option Outcome) (writes : List Write) (asked : List Job) → answer (length asked) p.job ≡ Some outcome →
-    Stops (walking before old writes asked) (left answer before (walking before old writes asked)) now fault
+    (first : List Write) → old.writes ≡ first ++ writes → Stops first (walking before old.store writes asked) (left answer before (walking before old.store writes asked)) now fault
 
 -- a walker is over after its values and after a fault, and waits at a job
 abbrev pub StandsAs : Walker → Result Walked EvalFault → Type 0

@@ -1,5 +1,5 @@
 -- What a call that evaluates has done: all that the definition says, or a prefix of its writes.
-use Rattle.std.specs.Prelude.{◌≡◌, ℕ, List, ◌++◌, Result, Ok, Err}
+use Rattle.std.specs.Prelude.{◌≡◌, ◌⊎◌, ℕ, List, ◌++◌, ◌∷◌, [], Result, Ok, Err}
 use Rattle.std.specs.List.{AllZip}
 use Rattle.object_name.specs.Name.{ObjectName}
 use Rattle.object_name.specs.Causes.{Rose, RoseBy}
@@ -7,7 +7,7 @@ use Rattle.thunk_codec.specs.declared.job.Job.{Job}
 use Rattle.thunk_codec.specs.declared.job.Outcome.{Outcome}
 use Rattle.thunk_codec.specs.Outcome.{Fits}
 use Rattle.blob_store.specs.Store.{Store, Write, written}
-use Rattle.blob_store.specs.Keeping.{HaveOneName}
+use Rattle.blob_store.specs.Keeping.{Kept, HaveOneName}
 use Rattle.need_eval.specs.declared.fault.EvalFault.{EvalFault}
 use Rattle.need_eval.specs.declared.fault.EvalFault.TheVariants as faults
 use Rattle.need_eval.specs.declared.evaluating.Values.{Values}
@@ -31,13 +31,39 @@ pub record StopsWith {A : Type 0} (why : Stop) (e : Ended A) (now : Store) : Typ
   pub stopped : e ≡ Stopped why last
   pub store : now ≡ last.store
 
+-- the last of what was to be made failed, which may have been made: what was answered Ok is what stands before it, once each
+pub record ListsAllButLast {A : Type 0} (before made after : List A) : Type 0 where
+  pub front : List A
+  pub last : A
+  pub split : made ≡ front ++ last ∷ []
+  pub list : after ≡ before ++ front
+
+-- what was made was answered Ok, once each and in order, after what was before; or all but the last, which failed
+abbrev pub ListsMade : {A : Type 0} → List A → List A → List A → Type 0
+ListsMade before made after = (after ≡ before ++ made) ⊎ ListsAllButLast before made after
+
+-- the store has a prefix of the writes, and the puts that were answered Ok are this prefix; those before the evaluation began
+-- stand first
+pub record StopsPartWay {A : Type 0} (before : List Write) (s : State) (e : Ended A) (now : Kept) : Type 0 where
+  pub part : IsWritePrefix s e now.store
+  pub listed : ListsMade (before ++ s.writes) part.prefix now.writes
+
+-- the puts that were answered Ok are all writes of the evaluation, once each and in order, after those before it began
+abbrev pub ListsAll : {A : Type 0} → List Write → Ended A → Kept → Type 0
+ListsAll before e now = now.writes ≡ before ++ (state_after e).writes
+
+-- a keeper has the store of a state, and after the puts before the evaluation began those that the state has as its writes
+pub record IsAt (before : List Write) (s : State) (now : Kept) : Type 0 where
+  pub store : s.store ≡ now.store
+  pub list : now.writes ≡ before ++ s.writes
+
 -- what was done up to a fault
-abbrev pub Stops : {A : Type 0} → State → Ended A → Store → EvalFault → Type 0
-Stops s e now (faults.Refused refusal) = StopsWith (Refused refusal) e now
-Stops s e now (faults.Clash name found fresh) = StopsWith (Clash name found fresh) e now
-Stops s e now faults.StoreFailed = IsWritePrefix s e now
-Stops s e now faults.RunFailed = IsWritePrefix s e now
-Stops s e now faults.Memory = IsWritePrefix s e now
+abbrev pub Stops : {A : Type 0} → List Write → State → Ended A → Kept → EvalFault → Type 0
+Stops before s e now (faults.Refused refusal) = StopsWith (Refused refusal) e now.store × ListsAll before e now
+Stops before s e now (faults.Clash name found fresh) = StopsWith (Clash name found fresh) e now.store × ListsAll before e now
+Stops before s e now faults.StoreFailed = StopsPartWay before s e now
+Stops before s e now faults.RunFailed = StopsPartWay before s e now
+Stops before s e now faults.Memory = StopsPartWay before s e now
 
 -- the evaluation gives this, and the store is as it leaves it
 pub record Yields {A : Type 0} (x : A) (steps : ℕ) (e : Ended A) (now : Store) : Type 0 where
@@ -47,9 +73,9 @@ pub record Yields {A : Type 0} (x : A) (steps : ℕ) (e : Ended A) (now : Store)
   pub store : now ≡ last.store
 
 -- what a call that evaluates did, by its answer
-abbrev pub Does : State → Ended (List ObjectName) → Store → Result Values EvalFault → Type 0
-Does s e now (Ok values) = Yields values.names values.steps e now
-Does s e now (Err fault) = Stops s e now fault
+abbrev pub Does : List Write → State → Ended (List ObjectName) → Kept → Result Values EvalFault → Type 0
+Does before s e now (Ok values) = Yields values.names values.steps e now.store × ListsAll before e now
+Does before s e now (Err fault) = Stops before s e now fault
 
 -- each outcome fits its job, and is the function's where that is told
 abbrev pub AreAnswers : (Job → Type 0) → (Job → Outcome) → List Job → List Outcome → Type 0

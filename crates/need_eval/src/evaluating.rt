@@ -4,9 +4,12 @@ ghost use Rattle.std.specs.Prelude.{◌≡◌, ◌≤◌, IfOk, IfErr, IfSome, I
 ghost use Rattle.std.specs.List.{AllByRecursion};
 ghost use Rattle.thunk_codec.specs.Outcome.{Fits};
 ghost use Rattle.thunk_codec.specs.Reference.{IsRef};
-ghost use Rattle.need_eval.specs.Evaluating.{EvaluatesAll, EvaluatesSome};
+ghost use Rattle.object_name.specs.Causes.{Rose, RoseBy};
+ghost use Rattle.blob_store.specs.Keeping.{kept};
+ghost use Rattle.object_name.specs.Causes.{TriesAtMost};
+ghost use Rattle.need_eval.specs.Evaluating.{EvaluatesAll, EvaluatesSome, EvaluatesInFull};
 ghost use Rattle.need_eval.specs.WritePrefix.{EvalCause, ClashShows};
-ghost use Rattle.need_eval.specs.StepContracts.{RunCause};
+ghost use Rattle.need_eval.specs.StepContracts.{RunCause, keeper_failures};
 ghost use Rattle.need_eval.specs.Walking.{blocked_at};
 
 use crate::fault::EvalFault;
@@ -35,13 +38,19 @@ pub fn evaluate<K: Keeper, R: Runner>(
 ) -> Result<Values, EvalFault>
     requires { AllByRecursion IsRef refs }
     // Where the jobs are told, it is the evaluation with the runner's function, or stops at a fault after a prefix of its writes.
-    ensures exact { K.tells → EvaluatesAll R.tells R.outcome budget refs (K.store keeper.old) (K.store keeper.new) result }
+    // Each write was put once, in order: those that were answered Ok are the evaluation's, or a prefix of them.
+    ensures exact { K.tells → EvaluatesAll R.tells R.outcome budget refs (kept K.store K.writes keeper.old) (kept K.store K.writes keeper.new) result }
     // Where they aren't, there are outcomes that fit them for which it is so.
-    ensures some { K.tells → EvaluatesSome R.tells R.outcome budget refs (K.store keeper.old) (K.store keeper.new) result }
+    ensures some { K.tells → EvaluatesSome R.tells R.outcome budget refs (kept K.store K.writes keeper.old) (kept K.store K.writes keeper.new) result }
     ensures kept_later { K.faults keeper.old ≤ K.faults keeper.new }
     ensures run_later { R.faults runner.old ≤ R.faults runner.new }
     ensures cause { EvalCause retries (K.faults keeper.old) (K.faults keeper.new) (R.faults runner.old) (R.faults runner.new) result }
+    // Of the keeper's calls no more failed than the retries allow.
+    ensures tries { K.tells → TriesAtMost retries K.calls K.faults keeper.old keeper.new (keeper_failures result) }
     ensures clash { ClashShows result }
+    // Where no fault has a cause and no two objects that are met have one name, the answer is the definition's or out of memory.
+    ensures undisturbed { K.tells → (RoseBy retries (K.faults keeper.old) (K.faults keeper.new) → ⊥) → (Rose (R.faults runner.old) (R.faults runner.new) → ⊥) →
+        EvaluatesInFull R.tells R.outcome budget refs (kept K.store K.writes keeper.old) (kept K.store K.writes keeper.new) result }
 {
     let mut walker = Walker::new(alloc, refs, budget, retries)?;
     'walk: loop {

@@ -32,7 +32,7 @@ fn input_object<K: Keeper>(
     retries: u32,
 ) -> Result<(Path, Bytes), EvalFault>
     ensures reads { K.tells → (s : State) → s.store ≡ K.store keeper.old → Reads (λ read. read) (input_object (path.now, reference.now) s) s result }
-    ensures only_reads { OnlyReads K.tells K.store K.faults keeper.old keeper.new retries result }
+    ensures only_reads { OnlyReads K.tells K.store K.writes K.faults K.calls keeper.old keeper.new retries result }
 {
     let bytes = object(alloc, keeper, reference.name(), retries)?;
     let path = path.copy(alloc)?;
@@ -47,7 +47,7 @@ fn input_objects<K: Keeper>(
     retries: u32,
 ) -> Result<Many<(Path, Bytes)>, EvalFault>
     ensures reads { K.tells → (s : State) → s.store ≡ K.store keeper.old → Reads (λ read. read) (each input_object inputs.now s) s result }
-    ensures only_reads { OnlyReads K.tells K.store K.faults keeper.old keeper.new retries result }
+    ensures only_reads { OnlyReads K.tells K.store K.writes K.faults K.calls keeper.old keeper.new retries result }
 {
     let mut read = Many::new(alloc);
     'inputs: for (path, reference) in inputs {
@@ -66,7 +66,7 @@ pub fn job_of<K: Keeper>(
 ) -> Result<Job, EvalFault>
     ensures reads { K.tells → (s : State) → s.store ≡ K.store keeper.old → Reads (λ job. job) (job_of thunk.now s) s result }
     ensures outputs { IfOk result (λ job. job.outputs ≡ thunk.now.outputs) }
-    ensures only_reads { OnlyReads K.tells K.store K.faults keeper.old keeper.new retries result }
+    ensures only_reads { OnlyReads K.tells K.store K.writes K.faults K.calls keeper.old keeper.new retries result }
 {
     let function = object(alloc, keeper, thunk.function().name(), retries)?;
     let inputs = input_objects(alloc, keeper, thunk.inputs(), retries)?;

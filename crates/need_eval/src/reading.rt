@@ -2,12 +2,12 @@
 
 ghost use Rattle.std.specs.Prelude.{◌≡◌, ◌≤◌, ℕ, List, length, Some, IfOk, IfErr, slice_get};
 ghost use Rattle.object_name.specs.Name.{ObjectName, max_size, name_of};
-ghost use Rattle.blob_store.specs.Store.{Store};
+ghost use Rattle.blob_store.specs.Keeping.{Kept};
 ghost use Rattle.reduction_cache.specs.Hit.{hit_of};
 ghost use Rattle.need_eval.specs.declared.fault.Refusal.TheVariants.{NoOutput};
 ghost use Rattle.need_eval.specs.Eval.{State, Ended, Refused, need};
 ghost use Rattle.need_eval.specs.Evaluation.{object, thunk_at};
-ghost use Rattle.need_eval.specs.StepContracts.{Reads, OnlyReads, StopsReading, KeeperCause};
+ghost use Rattle.need_eval.specs.StepContracts.{Reads, OnlyReads, StopsReading, ReadCause};
 
 use crate::fault::{EvalFault, Refusal};
 use blob_store::{Keeper, fetch};
@@ -24,7 +24,7 @@ pub fn object<K: Keeper>(
     retries: u32,
 ) -> Result<Bytes, EvalFault>
     ensures reads { K.tells → (s : State) → s.store ≡ K.store keeper.old → Reads (λ bytes. bytes) (object name.now s) s result }
-    ensures only_reads { OnlyReads K.tells K.store K.faults keeper.old keeper.new retries result }
+    ensures only_reads { OnlyReads K.tells K.store K.writes K.faults K.calls keeper.old keeper.new retries result }
 {
     match fetch(alloc, keeper, name, retries) {
         Ok(Some(bytes)) => Ok(bytes),
@@ -42,7 +42,7 @@ pub fn thunk_at<K: Keeper>(
     retries: u32,
 ) -> Result<Thunk, EvalFault>
     ensures reads { K.tells → (s : State) → s.store ≡ K.store keeper.old → Reads (λ t. t) (thunk_at name.now s) s result }
-    ensures only_reads { OnlyReads K.tells K.store K.faults keeper.old keeper.new retries result }
+    ensures only_reads { OnlyReads K.tells K.store K.writes K.faults K.calls keeper.old keeper.new retries result }
 {
     let bytes = object(alloc, keeper, name, retries)?;
     match decode(alloc, bytes.as_slice()) {
@@ -56,7 +56,7 @@ pub fn thunk_at<K: Keeper>(
 pub fn output_at(name: &Name, index: u32, outputs: &[Name]) -> Result<Name, EvalFault>
     ensures found { IfOk result (λ output. slice_get outputs.now index ≡ Some output) }
     ensures reads { (s : State) → Reads (λ output. output) (need (slice_get outputs.now index) (Refused (NoOutput name.now index)) s) s result }
-    ensures cause { (retries before after : ℕ) → IfErr result (KeeperCause retries before after) }
+    ensures cause { (retries before after : ℕ) → IfErr result (ReadCause retries before after) }
 {
     match outputs.get(index as usize) {
         Some(output) => Ok(*output),
@@ -81,8 +81,8 @@ pub fn noted<K: Keeper>(
     retries: u32,
 ) -> Result<Option<Many<Name>>, EvalFault>
     ensures found { K.tells → IfOk result (λ found. found ≡ hit_of (K.store keeper.old) resolved.now outputs) }
-    ensures fault { IfErr result (λ fault. (e : Ended (List ObjectName)) (store : Store) → StopsReading e store fault) }
-    ensures only_reads { OnlyReads K.tells K.store K.faults keeper.old keeper.new retries result }
+    ensures fault { IfErr result (λ fault. (e : Ended (List ObjectName)) (at : Kept) → StopsReading e at fault) }
+    ensures only_reads { OnlyReads K.tells K.store K.writes K.faults K.calls keeper.old keeper.new retries result }
 {
     match hit(alloc, keeper, resolved, outputs, retries) {
         Ok(found) => Ok(found),

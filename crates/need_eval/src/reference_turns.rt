@@ -18,7 +18,7 @@ impl Walker {
     ghost use Rattle.blob_store.specs.Store.{Store};
     ghost use Rattle.need_eval.specs.Eval.{State};
     ghost use Rattle.need_eval.specs.declared.stage.Stage.TheVariants as stages;
-    ghost use Rattle.need_eval.specs.StepContracts.{Reads, OnlyReads, KeeperCause, entry, stepped};
+    ghost use Rattle.need_eval.specs.StepContracts.{Reads, OnlyReads, ReadCause, entry, stepped};
     ghost use Rattle.need_eval.specs.Walking.{reduced_at, work_of};
     ghost use Rattle.need_eval.specs.TurnContracts.{Turns, Turned, IsHalted, IsOutput, IsInTurn};
 
@@ -32,7 +32,7 @@ impl Walker {
         requires turning { self.old.stage ≡ stages.Turning }
         requires next { self.old.level.rest.items ≡ Value name ∷ drop 1 self.old.level.rest.items }
         ensures turns { K.tells → Turns self.old self.new (K.store keeper.old) result }
-        ensures only_reads { OnlyReads K.tells K.store K.faults keeper.old keeper.new self.old.retries result }
+        ensures only_reads { OnlyReads K.tells K.store K.writes K.faults K.calls keeper.old keeper.new self.old.retries result }
         ensures in_turn { IsInTurn self.old self.new }
         ensures work { OnOk result (work_of self.new < work_of self.old) }
     {
@@ -48,7 +48,7 @@ impl Walker {
         requires known { IsOutput self.old name index output }
         requires kind { output.kind ≡ kinds.Thunk }
         ensures turns { (store : Store) → Turns self.old self.new store result }
-        ensures cause { (retries before after : ℕ) → IfErr result (KeeperCause retries before after) }
+        ensures cause { (retries before after : ℕ) → IfErr result (ReadCause retries before after) }
         ensures in_turn { IsInTurn self.old self.new }
         ensures work { OnOk result (work_of self.new < work_of self.old) }
     {
@@ -69,7 +69,7 @@ impl Walker {
         requires next { self.old.level.rest.items ≡ Out name index ∷ drop 1 self.old.level.rest.items }
         requires known { IsOutput self.old name index output }
         ensures turns { (store : Store) → Turns self.old self.new store result }
-        ensures cause { (retries before after : ℕ) → IfErr result (KeeperCause retries before after) }
+        ensures cause { (retries before after : ℕ) → IfErr result (ReadCause retries before after) }
         ensures in_turn { IsInTurn self.old self.new }
         ensures work { OnOk result (work_of self.new < work_of self.old) }
     {
@@ -86,7 +86,7 @@ impl Walker {
     fn check_entry(&self, name: &Name, index: u32, thunk: &Thunk) -> Result<(), EvalFault>
         ensures reads { (s : State) → s.steps ≡ self.now.steps → Reads (λ _. thunk.now) (entry self.now.budget name.now index thunk.now s) (stepped s) result }
         ensures step { OnOk result (self.now.steps < self.now.budget) }
-        ensures cause { (retries before after : ℕ) → IfErr result (KeeperCause retries before after) }
+        ensures cause { (retries before after : ℕ) → IfErr result (ReadCause retries before after) }
     {
         if index as usize >= thunk.outputs().len() {
             return Err(EvalFault::Refused(Refusal::NoOutput { name: *name, index }));
@@ -112,7 +112,7 @@ impl Walker {
         requires next { self.old.level.rest.items ≡ Out name index ∷ drop 1 self.old.level.rest.items }
         requires not_reduced { reduced_at self.old name ≡ None }
         ensures turns { K.tells → Turns self.old self.new (K.store keeper.old) result }
-        ensures only_reads { OnlyReads K.tells K.store K.faults keeper.old keeper.new self.old.retries result }
+        ensures only_reads { OnlyReads K.tells K.store K.writes K.faults K.calls keeper.old keeper.new self.old.retries result }
         ensures in_turn { IsInTurn self.old self.new }
         ensures work { OnOk result (work_of self.new < work_of self.old) }
     {
@@ -143,7 +143,7 @@ impl Walker {
         requires turning { self.old.stage ≡ stages.Turning }
         requires next { self.old.level.rest.items ≡ Out name index ∷ drop 1 self.old.level.rest.items }
         ensures turns { K.tells → Turns self.old self.new (K.store keeper.old) result }
-        ensures only_reads { OnlyReads K.tells K.store K.faults keeper.old keeper.new self.old.retries result }
+        ensures only_reads { OnlyReads K.tells K.store K.writes K.faults K.calls keeper.old keeper.new self.old.retries result }
         ensures in_turn { IsInTurn self.old self.new }
         ensures work { OnOk result (work_of self.new < work_of self.old) }
     {
@@ -166,7 +166,7 @@ impl Walker {
         requires turning { self.old.stage ≡ stages.Turning }
         requires next { self.old.level.rest.items ≡ next.now ∷ drop 1 self.old.level.rest.items }
         ensures turns { K.tells → Turns self.old self.new (K.store keeper.old) result }
-        ensures only_reads { OnlyReads K.tells K.store K.faults keeper.old keeper.new self.old.retries result }
+        ensures only_reads { OnlyReads K.tells K.store K.writes K.faults K.calls keeper.old keeper.new self.old.retries result }
         ensures in_turn { IsInTurn self.old self.new }
         ensures work { OnOk result (work_of self.new < work_of self.old) }
     {
@@ -185,7 +185,7 @@ impl Walker {
         requires { self.old.stage ≡ stages.Turning }
         ensures turns { K.tells → Turned self.old self.new (K.store keeper.old) result }
         ensures halts { IfOk result (λ turn. IfSome turn (λ halt. IsHalted self.new halt)) }
-        ensures only_reads { OnlyReads K.tells K.store K.faults keeper.old keeper.new self.old.retries result }
+        ensures only_reads { OnlyReads K.tells K.store K.writes K.faults K.calls keeper.old keeper.new self.old.retries result }
         ensures in_turn { IsInTurn self.old self.new }
         ensures work { OnOk result (work_of self.new ≤ work_of self.old) }
         ensures less { IfOk result (λ turn. turn ≡ None → work_of self.new < work_of self.old) }

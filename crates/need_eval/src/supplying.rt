@@ -12,8 +12,10 @@ use thunk_codec::Outcome;
 impl Walker {
     ghost use Rattle.std.specs.Prelude.{◌≡◌, ◌<◌, IsTrue, OnOk};
     ghost use Rattle.thunk_codec.specs.Outcome.{Fits};
+    ghost use Rattle.blob_store.specs.Keeping.{kept};
+    ghost use Rattle.object_name.specs.Causes.{TriesAtMost};
     ghost use Rattle.need_eval.specs.declared.stage.Stage.TheVariants as stages;
-    ghost use Rattle.need_eval.specs.StepContracts.{HasKeeperCause};
+    ghost use Rattle.need_eval.specs.StepContracts.{HasKeeperCause, keeper_failures};
     ghost use Rattle.need_eval.specs.WalkerInvariant.{is_inside};
     ghost use Rattle.need_eval.specs.Walking.{work_of, StandsAt, Supplies};
     ghost use Rattle.need_eval.specs.TurnContracts.{IsInTurn, IsReady};
@@ -41,8 +43,9 @@ impl Walker {
         requires inside { IsTrue (is_inside self.old.frames.items self.old.level.rest.items) }
         requires fits { Fits waiting.now.prepared.job outcome.now }
         ensures supplies { K.tells → StandsAt self.old (K.store keeper.old) waiting.now.prepared →
-            Supplies self.old self.new waiting.now.prepared outcome.now (K.store keeper.old) (K.store keeper.new) result }
+            Supplies self.old self.new waiting.now.prepared outcome.now (kept K.store K.writes keeper.old) (kept K.store K.writes keeper.new) result }
         ensures cause { HasKeeperCause self.old.retries (K.faults keeper.old) (K.faults keeper.new) result }
+        ensures tries { K.tells → TriesAtMost self.old.retries K.calls K.faults keeper.old keeper.new (keeper_failures result) }
         ensures in_turn { IsInTurn self.old self.new }
         ensures work { OnOk result (work_of self.new < work_of self.old) }
     {

@@ -81,7 +81,7 @@ impl Walker {
         requires named { note_name ≡ name_of text }
         requires miss { K.tells → hit_of (K.store keeper.old) (name_of (text_of thunk.now)) (length thunk.now.outputs) ≡ None }
         ensures asks { K.tells → Asks self.now (K.store keeper.old) result }
-        ensures only_reads { OnlyReads K.tells K.store K.faults keeper.old keeper.new self.now.retries result }
+        ensures only_reads { OnlyReads K.tells K.store K.writes K.faults K.calls keeper.old keeper.new self.now.retries result }
     {
         let job = job_of(alloc, keeper, thunk, self.retries)?;
         let prepared = Prepared { text, job };
@@ -104,7 +104,7 @@ impl Walker {
         requires innermost { IsInnermost self.old name thunk.now }
         ensures turns { K.tells → Turned self.old self.new (K.store keeper.old) result }
         ensures halts { IfOk result (λ turn. IfSome turn (λ halt. IsHalted self.new halt)) }
-        ensures only_reads { OnlyReads K.tells K.store K.faults keeper.old keeper.new self.old.retries result }
+        ensures only_reads { OnlyReads K.tells K.store K.writes K.faults K.calls keeper.old keeper.new self.old.retries result }
         ensures in_turn { IsInTurn self.old self.new }
         ensures work { OnOk result (work_of self.new ≤ work_of self.old) }
         ensures less { IfOk result (λ turn. turn ≡ None → work_of self.new < work_of self.old) }
@@ -151,7 +151,7 @@ impl Walker {
         requires gathered { self.old.level.rest.items ≡ [] }
         ensures turns { K.tells → Turned self.old self.new (K.store keeper.old) result }
         ensures halts { IfOk result (λ turn. IfSome turn (λ halt. IsHalted self.new halt)) }
-        ensures only_reads { OnlyReads K.tells K.store K.faults keeper.old keeper.new self.old.retries result }
+        ensures only_reads { OnlyReads K.tells K.store K.writes K.faults K.calls keeper.old keeper.new self.old.retries result }
         ensures in_turn { IsInTurn self.old self.new }
         ensures work { OnOk result (work_of self.new ≤ work_of self.old) }
         ensures less { IfOk result (λ turn. turn ≡ None → work_of self.new < work_of self.old) }

@@ -53,8 +53,10 @@ impl Walker {
     ghost use Rattle.std.specs.List.{AllByRecursion};
     ghost use Rattle.thunk_codec.specs.Reference.{IsRef};
     ghost use Rattle.thunk_codec.specs.Outcome.{Fits};
+    ghost use Rattle.blob_store.specs.Keeping.{kept};
+    ghost use Rattle.object_name.specs.Causes.{TriesAtMost};
     ghost use Rattle.need_eval.specs.declared.stage.Stage.TheVariants as stages;
-    ghost use Rattle.need_eval.specs.StepContracts.{HasKeeperCause, OnlyReads};
+    ghost use Rattle.need_eval.specs.StepContracts.{HasKeeperCause, OnlyReads, keeper_failures};
     ghost use Rattle.need_eval.specs.TurnContracts.{HaltsAs, IsHalted, IsInTurn};
     ghost use Rattle.need_eval.specs.Walking.{IsFresh, IsWalking, HasSetup, blocked_at, is_over, work_of, Advances, StandsAt, Supplies, StandsAs, HasSteps};
 
@@ -91,7 +93,8 @@ impl Walker {
         requires { IsWalking self.old }
         // What is left of the evaluation is what was left; at a job the evaluation stands at the job of that text.
         ensures walks { K.tells → Advances self.old self.new (K.store keeper.old) result }
-        ensures only_reads { OnlyReads K.tells K.store K.faults keeper.old keeper.new self.old.retries result }
+        // It writes nothing, meets no clash and runs no job.
+        ensures only_reads { OnlyReads K.tells K.store K.writes K.faults K.calls keeper.old keeper.new self.old.retries result }
         // At a job it waits; else it is over.
         ensures stands { StandsAs self.new result }
         ensures steps { IfOk result (λ walked. HasSteps self.new walked) }
@@ -120,7 +123,7 @@ impl Walker {
         requires { self.old.stage ≡ stages.Turning }
         ensures walks { K.tells → HaltsAs self.old self.new (K.store keeper.old) result }
         ensures halts { IfOk result (λ halt. IsHalted self.new halt) }
-        ensures only_reads { OnlyReads K.tells K.store K.faults keeper.old keeper.new self.old.retries result }
+        ensures only_reads { OnlyReads K.tells K.store K.writes K.faults K.calls keeper.old keeper.new self.old.retries result }
         ensures in_turn { IsInTurn self.old self.new }
         ensures work { OnOk result (work_of self.new ≤ work_of self.old) }
     {
@@ -153,8 +156,9 @@ impl Walker {
         requires fits { IfSome (blocked_at self.old) (λ prepared. Fits prepared.job outcome) }
         // Where the evaluation stands at this job, it goes on with this outcome.
         ensures supplies { K.tells → IfSome (blocked_at self.old) (λ prepared. StandsAt self.old (K.store keeper.old) prepared →
-            Supplies self.old self.new prepared outcome (K.store keeper.old) (K.store keeper.new) result) }
+            Supplies self.old self.new prepared outcome (kept K.store K.writes keeper.old) (kept K.store K.writes keeper.new) result) }
         ensures cause { HasKeeperCause self.old.retries (K.faults keeper.old) (K.faults keeper.new) result }
+        ensures tries { K.tells → TriesAtMost self.old.retries K.calls K.faults keeper.old keeper.new (keeper_failures result) }
         ensures walking { OnOk result (IsWalking self.new) }
         ensures over { OnErr result (is_over self.new ≡ true) }
         ensures setup { HasSetup self.old self.new }

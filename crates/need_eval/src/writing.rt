@@ -6,9 +6,11 @@ ghost use Rattle.object_name.specs.Name.{max_size, name_of};
 ghost use Rattle.thunk_codec.specs.declared.job.Job.{Job};
 ghost use Rattle.thunk_codec.specs.Outcome.{Fits};
 ghost use Rattle.thunk_codec.specs.Thunk.{Parts, text_of};
+ghost use Rattle.blob_store.specs.Keeping.{kept};
+ghost use Rattle.object_name.specs.Causes.{TriesAtMost};
 ghost use Rattle.need_eval.specs.Eval.{each};
 ghost use Rattle.need_eval.specs.Evaluation.{store_one, outputs_by, finished};
-ghost use Rattle.need_eval.specs.StepContracts.{HasKeeperCause, fault_of_store};
+ghost use Rattle.need_eval.specs.StepContracts.{HasKeeperCause, fault_of_store, keeper_failures};
 ghost use Rattle.need_eval.specs.WriteContracts.{PutsAs};
 
 use crate::fault::{EvalFault, Refusal};
@@ -37,8 +39,9 @@ fn keep<K: Keeper>(
     retries: u32,
 ) -> Result<Name, EvalFault>
     requires { length bytes.now ≤ max_size }
-    ensures puts { K.tells → PutsAs (store_one bytes.now) (K.store keeper.old) (K.store keeper.new) result }
+    ensures puts { K.tells → PutsAs (store_one bytes.now) (kept K.store K.writes keeper.old) (kept K.store K.writes keeper.new) result }
     ensures cause { HasKeeperCause retries (K.faults keeper.old) (K.faults keeper.new) result }
+    ensures tries { K.tells → TriesAtMost retries K.calls K.faults keeper.old keeper.new (keeper_failures result) }
 {
     match store(alloc, keeper, bytes, retries) {
         Ok(name) => Ok(name),
@@ -54,9 +57,10 @@ fn keep_all<K: Keeper>(
     retries: u32,
 ) -> Result<Many<Name>, EvalFault>
     requires { sum_by length outputs.now ≤ max_size }
-    ensures puts { K.tells → PutsAs (each store_one outputs.now) (K.store keeper.old) (K.store keeper.new) result }
+    ensures puts { K.tells → PutsAs (each store_one outputs.now) (kept K.store K.writes keeper.old) (kept K.store K.writes keeper.new) result }
     ensures number { IfOk result (λ names. length names ≡ length outputs.now) }
     ensures cause { HasKeeperCause retries (K.faults keeper.old) (K.faults keeper.new) result }
+    ensures tries { K.tells → TriesAtMost retries K.calls K.faults keeper.old keeper.new (keeper_failures result) }
 {
     let mut names = Many::new(alloc);
     'outputs: for output in outputs {
@@ -76,9 +80,10 @@ fn keep_outputs<K: Keeper>(
     retries: u32,
 ) -> Result<Many<Name>, EvalFault>
     requires { (job : Job) × Fits job outcome.now × (length job.outputs ≡ job_outputs) }
-    ensures puts { K.tells → PutsAs (outputs_by name.now outcome.now) (K.store keeper.old) (K.store keeper.new) result }
+    ensures puts { K.tells → PutsAs (outputs_by name.now outcome.now) (kept K.store K.writes keeper.old) (kept K.store K.writes keeper.new) result }
     ensures number { IfOk result (λ names. length names ≡ job_outputs) }
     ensures cause { HasKeeperCause retries (K.faults keeper.old) (K.faults keeper.new) result }
+    ensures tries { K.tells → TriesAtMost retries K.calls K.faults keeper.old keeper.new (keeper_failures result) }
 {
     match outcome {
         Outcome::Done(outputs) => keep_all(alloc, keeper, outputs.as_slice(), retries),
@@ -103,8 +108,9 @@ pub fn keep_outcome<K: Keeper>(
     requires kind { resolved.now.kind ≡ kinds.Thunk }
     requires some_output { 1 ≤ job_outputs }
     requires few_outputs { job_outputs ≤ 64 }
-    ensures puts { K.tells → (t : Parts) → resolved.now ≡ name_of (text_of t) → PutsAs (finished name.now t outcome.now) (K.store keeper.old) (K.store keeper.new) result }
+    ensures puts { K.tells → (t : Parts) → resolved.now ≡ name_of (text_of t) → PutsAs (finished name.now t outcome.now) (kept K.store K.writes keeper.old) (kept K.store K.writes keeper.new) result }
     ensures cause { HasKeeperCause retries (K.faults keeper.old) (K.faults keeper.new) result }
+    ensures tries { K.tells → TriesAtMost retries K.calls K.faults keeper.old keeper.new (keeper_failures result) }
 {
     let outputs = keep_outputs(alloc, keeper, name, job_outputs, outcome, retries)?;
     match keep_note(alloc, keeper, resolved, outputs.as_slice(), retries) {

@@ -1,6 +1,7 @@
 use Rattle.std.proofs.Common.{sym, subst, ◌∙◌, arith}
 use Rattle.std.proofs.lemmas.Result.{err_from_is_err_and}
 use Rattle.blob_store.specs.Store.{Store}
+use Rattle.need_eval.specs.StepContracts.{kept_in}
 use Rattle.need_eval.specs.TurnContracts.{StopsAt}
 use Rattle.need_eval.specs.Walking.{walking, left}
 use Rattle.need_eval.proofs.ThunkIsLeft.{stops-too-big, comes-out}
@@ -16,7 +17,7 @@ pub returns-in_err-known-clause-turns : goal.returns-in_err-known-clause-turns
 returns-in_err-known-clause-turns g c = λ told.
     let p = err_from_is_err_and c.from_residual-in_err-known.result c.from_residual-in_err-known.ensures.1 in
     let store = g.K.Keeper.store c.args.keeper.now in
-    rw (p.1, p.2) (λ answer writes asked. c.in_err-known.ensures.fault (left answer c.args.self.now (walking c.args.self.now store writes asked)) store)
+    rw (p.1, p.2) (λ answer writes asked. c.in_err-known.ensures.fault (left answer c.args.self.now (walking c.args.self.now store writes asked)) (kept_in (walking c.args.self.now store writes asked)))
 
 pub returns-in_err-waiting-clause-turns : goal.returns-in_err-waiting-clause-turns
 returns-in_err-waiting-clause-turns g c = λ told.

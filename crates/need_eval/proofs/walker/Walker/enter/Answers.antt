@@ -1,6 +1,8 @@
-use Rattle.std.proofs.Common.{refl, ap, ◌∙◌, ◌∷◌, drop, add-one}
+use Rattle.std.proofs.Common.{refl, sym, ap, subst, ◌∙◌, ◌∷◌, drop, add-one}
 use Rattle.std.proofs.lemmas.Result.{err_from_is_err_and}
 use Rattle.need_eval.specs.declared.frame.Frame.{Frame}
+use Rattle.object_name.specs.Causes.{TriesAtMost}
+use Rattle.need_eval.proofs.NothingFails.{fault-unfailing}
 use Rattle.need_eval.proofs.WalkerStaysSound.{sound-enter}
 use Rattle.need_eval.proofs.TurnsGoOn.{here, onward-enter, onward-thunk-stops, onward-entry-stops}
 use Rattle.thunk_codec.specs.declared.reference.Ref.TheVariants.{Out}
@@ -26,7 +28,11 @@ returns-in_err-check_entry-clause-only_reads g c =
     let p = err_from_is_err_and c.from_residual-in_err-check_entry.result c.from_residual-in_err-check_entry.ensures.1 in
     record {
       same = c.thunk_at.ensures.only_reads.same;
+      list = c.thunk_at.ensures.only_reads.list;
       later = c.thunk_at.ensures.only_reads.later;
+      tries = λ told.
+          rw (p.1, p.2) (subst (TriesAtMost c.args.self.now.retries g.K.Keeper.calls g.K.Keeper.faults c.args.keeper.now c.thunk_at.new.keeper)
+          (sym (fault-unfailing c.in_err-check_entry.field-0.0 c.in_err-check_entry.ensures.cause)) (c.in_ok-thunk.ensures.only_reads.tries told));
       cause = rw (p.1, p.2) (c.in_err-check_entry.ensures.cause c.args.self.now.retries (g.K.Keeper.faults c.args.keeper.now) (g.K.Keeper.faults c.thunk_at.new.keeper));
     }
 

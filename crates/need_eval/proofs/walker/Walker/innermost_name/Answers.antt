@@ -1,4 +1,4 @@
-use Rattle.std.proofs.Common.{rules, drop, refl}
+use Rattle.std.proofs.Common.{drop, refl}
 use Rattle.need_eval.proofs.ThunkIsLeft.{first-of}
 use Rattle.need_eval.proofs.WalkerStaysSound.{inside-entered, inside-gathered}
 use Rattle.need_eval.proofs.walker.Walker.innermost_name.Goals as goal

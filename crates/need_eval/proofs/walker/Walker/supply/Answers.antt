@@ -1,4 +1,4 @@
-use Rattle.std.proofs.Common.{◌≡◌, Some, IsSome, Option, sym, ap, subst, ◌∙◌}
+use Rattle.std.proofs.Common.{IsSome, Option, sym, ap, subst, ◌∙◌}
 use Rattle.need_eval.specs.declared.waiting.Waiting.{Waiting}
 use Rattle.thunk_codec.specs.Outcome.{Fits}
 use Rattle.need_eval.specs.WalkerInvariant.{waiting_in}
@@ -22,13 +22,13 @@ finish-requires-clause-fits g c =
 pub returns-clause-supplies : goal.returns-clause-supplies
 returns-clause-supplies g c = λ told.
     for-blocked c.args.self.now.stage c.into_waiting-waiting.result _ (ap waiting_in (sym c.replace-stage.ensures.value) ∙ c.into_waiting-waiting.ensures)
-    (λ stands answer writes asked answers. c.in-Err.ensures.supplies told
+    (λ stands answer writes asked answers first list. c.in-Err.ensures.supplies told
     (record { inner = stands.inner; outer = stands.outer; frames = stands.frames; no_rest = stands.no_rest; small = stands.small; no_hit = stands.no_hit; text = stands.text; job = stands.job })
-    answer writes asked answers)
+    answer writes asked answers first list)
 
 pub returns-in-Ok-clause-supplies : goal.returns-in-Ok-clause-supplies
 returns-in-Ok-clause-supplies g c = λ told.
     for-blocked c.args.self.now.stage c.into_waiting-waiting.result _ (ap waiting_in (sym c.replace-stage.ensures.value) ∙ c.into_waiting-waiting.ensures)
     (λ stands. let done = c.in-Ok.ensures.supplies told
     (record { inner = stands.inner; outer = stands.outer; frames = stands.frames; no_rest = stands.no_rest; small = stands.small; no_hit = stands.no_hit; text = stands.text; job = stands.job }) in
-    record { made = done.made; put = done.put; goes = done.goes })
+    record { made = done.made; put = done.put; list = done.list; goes = done.goes })
