@@ -2,16 +2,13 @@
 #![tactic(auto)]
 
 use blob_store::FolderKeeper;
-use file_tree::FolderTree;
+use file_tree::{FolderTree, STORE};
 use gg_cli::{Status, gg_top};
 use object_name::{Sink, WriteSink, write_all};
 use std::alloc::AllocError;
 use std::io::ErrorKind;
 use std::process::ExitCode;
-use std::{env, io};
-
-/// The folder of the store, in the current folder.
-const STORE: &str = ".gg";
+use std::{env, io, process};
 
 /// The current folder, whose files are the tree.
 const FOLDER: &str = ".";
@@ -35,8 +32,9 @@ fn words(rt: &HostRuntime) -> Result<Vec<String>, AllocError> {
 fn run<E: Sink>(rt: &HostRuntime, err: &mut E) -> Result<Status, AllocError> {
     let alloc = rt.alloc();
     let words = words(rt)?;
-    let mut keeper = FolderKeeper::new(alloc, HostRuntime::clone(rt)?, STORE)?;
-    let mut tree = FolderTree::new(alloc, HostRuntime::clone(rt)?, FOLDER)?;
+    let process = process::id(rt.process());
+    let mut keeper = FolderKeeper::new(alloc, HostRuntime::clone(rt)?, STORE, process)?;
+    let mut tree = FolderTree::new(alloc, HostRuntime::clone(rt)?, FOLDER, process)?;
     let stdout = rt.stdout();
     let mut out = WriteSink::new(io::writer(&stdout));
     let words = words.as_slice();

@@ -1,26 +1,42 @@
 -- Values that go to their files, one after another.
-use Rattle.std.proofs.Common.{◌≡◌, ℕ, ◌≤◌, List, [], ◌∷◌, ◌++◌, length, Option, Some, None, Result, Ok, Err, IsErr, IsErrAnd, ◌⊎◌, inl, inr, refl, sym, ap, subst, ◌∙◌, append_assoc, arith}
+use Rattle.std.proofs.Common.{◌≡◌, ℕ, ◌≤◌, List, [], ◌∷◌, ◌++◌, length, Result, Ok, Err, IsErr, IsErrAnd, ◌⊎◌, inl, inr, refl, sym, ap, subst, ◌∙◌, append_assoc, append-nil, arith}
+use Rattle.std.specs.Prelude.{IsSome}
 use Rattle.object_name.specs.Name.{ObjectName}
-use Rattle.blob_store.specs.Store.{Store, Contents, held}
-use Rattle.file_tree.specs.Files.{Files, Change, after_change, changed, MayChange}
-use Rattle.file_tree.specs.Files.Change.{Written}
+use Rattle.blob_store.specs.Store.{Store, Contents, Write, held}
+use Rattle.object_name.specs.Causes.{TriesAtMost}
+use Rattle.file_tree.specs.Files.{Files, Filed, after_change, changed, filed_in, MayChange}
+use Rattle.file_tree.specs.declared.change.Change.{Change}
+use Rattle.file_tree.specs.declared.change.Change.TheVariants.{Written}
 use Rattle.file_tree.specs.declared.item.Item.{Item}
-use Rattle.file_tree.specs.declared.item.Item.TheVariants.{File, Bare}
+use Rattle.need_eval.specs.MetObjects.{AreHeld}
 use Rattle.gg_cli.specs.declared.fault.FilingFault.{FilingFault}
 use Rattle.gg_cli.specs.declared.fault.FilingFault.TheVariants.{Missing, StoreFailed, FileFailed, Memory}
-use Rattle.gg_cli.specs.ValueFiles.{Filing, nothing_filed, one_filed, file_then, item_filed, filed}
-use Rattle.gg_cli.specs.StepContracts.{FiledPrefix, FiledAll, FilesValues, FilingCause}
+use Rattle.gg_cli.specs.ValueFiles.{item_filed, filed}
+use Rattle.gg_cli.specs.Comes.{ChangesPrefix, all_changed}
+use Rattle.gg_cli.specs.StepContracts.{FilesValues, FilingCause}
+use Rattle.gg_cli.proofs.ListsGrow.{ListsMade-after}
 
 -- ---- one file
 
--- a change that failed was made or was not: a prefix of one change
-pub may_be_filed : (path bytes : List ℕ) (old new : Files) → MayChange old (Written path bytes) new → FiledPrefix (one_filed path bytes) old new
-may_be_filed path bytes old new (inl same) = record { prefix = []; is_prefix = record { rest = Written path bytes ∷ []; whole = refl }; files = same }
-may_be_filed path bytes old new (inr made) = record { prefix = Written path bytes ∷ []; is_prefix = record { rest = []; whole = refl }; files = made }
+-- a change that failed was made or was not: a prefix of one change, and no more of them is in the list
+pub may_be_filed : (path bytes : List ℕ) (old new : Filed) → MayChange old.files (Written path bytes) new.files → new.changes ≡ old.changes → ChangesPrefix (Written path bytes ∷ []) old new
+may_be_filed path bytes old new (inl same) list = record {
+  prefix = [];
+  is_prefix = record { rest = Written path bytes ∷ []; whole = refl };
+  files = same;
+  listed = inl (list ∙ sym (append-nil old.changes));
+}
+may_be_filed path bytes old new (inr made) list = record {
+  prefix = Written path bytes ∷ [];
+  is_prefix = record { rest = []; whole = refl };
+  files = made;
+  listed = inr (record { front = []; last = Written path bytes; split = refl; list = list ∙ sym (append-nil old.changes) });
+}
 
--- no change is a prefix of any
-pub none_filed : (filing : Filing) (files : Files) → FiledPrefix filing files files
-none_filed filing files = record { prefix = []; is_prefix = record { rest = filing.changes; whole = refl }; files = refl }
+-- one that was answered Ok
+pub is_filed : (path bytes : List ℕ) (old new : Filed) → new.files ≡ after_change old.files (Written path bytes) → new.changes ≡ old.changes ++ Written path bytes ∷ []
+    → new ≡ all_changed old (Written path bytes ∷ [])
+is_filed path bytes old new made listed = λ i. record { files = made i; changes = listed i }
 
 -- ---- some files, and others after them
 
@@ -28,129 +44,107 @@ changed-append : (files : Files) (first later : List Change) → changed files (
 changed-append files [] later = refl
 changed-append files (change ∷ first) later = changed-append (after_change files change) first later
 
+all_changed-append : (filed : Filed) (first later : List Change) → all_changed filed (first ++ later) ≡ all_changed (all_changed filed first) later
+all_changed-append filed first later = λ i. record { files = changed-append filed.files first later i; changes = sym (append_assoc filed.changes first later) i }
+
 -- a part of the changes is made, and what is left of them isn't
-pub record HasFiled (filing left : Filing) (before now : Files) : Type 0 where
+pub record HasFiled (all left : List Change) (before now : Filed) : Type 0 where
   pub part : List Change
-  pub whole : filing.changes ≡ part ++ left.changes
-  pub missing : filing.missing ≡ left.missing
-  pub files : now ≡ changed before part
+  pub whole : all ≡ part ++ left
+  pub files : now ≡ all_changed before part
 
--- nothing is made yet
-pub HasFiled-none : (filing : Filing) (files : Files) → HasFiled filing filing files files
-HasFiled-none filing files = record { part = []; whole = refl; missing = refl; files = refl }
-
-module _ (filing left : Filing) (before mid new : Files) (h : HasFiled filing left before mid) where
-  files_by : (changes : List Change) → new ≡ changed mid changes → new ≡ changed before (h.part ++ changes)
-  files_by changes e = e ∙ ap (λ (f : Files). changed f changes) h.files ∙ sym (changed-append before h.part changes)
+module _ (all left : List Change) (before mid new : Filed) (h : HasFiled all left before mid) where
+  filed_by : (changes : List Change) → new ≡ all_changed mid changes → new ≡ all_changed before (h.part ++ changes)
+  filed_by changes e = e ∙ ap (λ (f : Filed). all_changed f changes) h.files ∙ sym (all_changed-append before h.part changes)
 
   -- a part more is made
-  HasFiled-more : (less : Filing) → HasFiled left less mid new → HasFiled filing less before new
+  HasFiled-more : (less : List Change) → HasFiled left less mid new → HasFiled all less before new
   HasFiled-more less k = record {
     part = h.part ++ k.part;
-    whole = h.whole ∙ ap (λ l. h.part ++ l) k.whole ∙ sym (append_assoc h.part k.part less.changes);
-    missing = h.missing ∙ k.missing;
-    files = files_by k.part k.files;
+    whole = h.whole ∙ ap (λ l. h.part ++ l) k.whole ∙ sym (append_assoc h.part k.part less);
+    files = filed_by k.part k.files;
   }
 
-  prefix_filed : FiledPrefix left mid new → FiledPrefix filing before new
+  prefix_filed : ChangesPrefix left mid new → ChangesPrefix all before new
   prefix_filed k = record {
     prefix = h.part ++ k.prefix;
     is_prefix = record { rest = k.is_prefix.rest; whole = h.whole ∙ ap (λ l. h.part ++ l) k.is_prefix.whole ∙ sym (append_assoc h.part k.prefix k.is_prefix.rest) };
-    files = files_by k.prefix k.files;
+    files = k.files ∙ ap (λ (f : Filed). changed f.files k.prefix) h.files ∙ sym (changed-append before.files h.part k.prefix);
+    listed = ListsMade-after before.changes mid.changes new.changes h.part k.prefix (ap (λ (f : Filed). f.changes) h.files) k.listed;
   }
 
-  all_filed : (missing : Option ObjectName) → FiledAll left missing mid new → FiledAll filing missing before new
-  all_filed missing k = record { is_missing = h.missing ∙ k.is_missing; files = files_by left.changes k.files ∙ ap (λ l. changed before l) (sym h.whole) }
-
   -- what is left ended so
-  HasFiled-end : {T : Type 0} (r : Result T FilingFault) → FilesValues left mid new r → FilesValues filing before new r
-  HasFiled-end (Ok v) k = all_filed None k
-  HasFiled-end (Err (Missing name)) k = all_filed (Some name) k
+  HasFiled-end : {T : Type 0} (r : Result T FilingFault) → FilesValues left mid new r → FilesValues all before new r
+  HasFiled-end (Ok v) k = filed_by left k ∙ ap (λ l. all_changed before l) (sym h.whole)
+  HasFiled-end (Err (Missing name)) k = k
   HasFiled-end (Err StoreFailed) k = prefix_filed k
   HasFiled-end (Err FileFailed) k = prefix_filed k
   HasFiled-end (Err Memory) k = prefix_filed k
 
--- ---- one item
+-- ---- one item, and later ones
 
-module _ (objects : Contents) (name : ObjectName) (later : Filing) (now new : Files) where
-  -- its value went to its file
-  item_done : (item : Item) → FiledAll (item_filed objects name item nothing_filed) None now new → HasFiled (item_filed objects name item later) later now new
-  item_done (Bare ref) h = record { part = []; whole = refl; missing = refl; files = h.files }
-  item_done (File path) h = by (held objects name) h where
-    by : (found : Option (List ℕ)) → FiledAll (file_then path name found nothing_filed) None now new → HasFiled (file_then path name found later) later now new
-    by None k = absurd (cc k.is_missing)
-    by (Some bytes) k = record { part = Written path bytes ∷ []; whole = refl; missing = refl; files = k.files }
-
-  -- its value is missing
-  item_missing : (item : Item) (missing : ObjectName) → FiledAll (item_filed objects name item nothing_filed) (Some missing) now new → FiledAll (item_filed objects name item later) (Some missing) now new
-  item_missing (Bare ref) missing h = absurd (cc h.is_missing)
-  item_missing (File path) missing h = by (held objects name) h where
-    by : (found : Option (List ℕ)) → FiledAll (file_then path name found nothing_filed) (Some missing) now new → FiledAll (file_then path name found later) (Some missing) now new
-    by None k = k
-    by (Some bytes) k = absurd (cc k.is_missing)
-
-  more_later : (few all : Filing) (rest : List Change) → all.changes ≡ few.changes ++ rest → FiledPrefix few now new → FiledPrefix all now new
-  more_later few all rest e k = record {
+module _ (first later : List Change) (now new : Filed) where
+  first_prefix : ChangesPrefix first now new → ChangesPrefix (first ++ later) now new
+  first_prefix k = record {
     prefix = k.prefix;
-    is_prefix = record { rest = k.is_prefix.rest ++ rest; whole = e ∙ ap (λ l. l ++ rest) k.is_prefix.whole ∙ append_assoc k.prefix k.is_prefix.rest rest };
+    is_prefix = record { rest = k.is_prefix.rest ++ later; whole = ap (λ l. l ++ later) k.is_prefix.whole ∙ append_assoc k.prefix k.is_prefix.rest later };
     files = k.files;
+    listed = k.listed;
   }
 
-  -- a call failed
-  item_prefix : (item : Item) → FiledPrefix (item_filed objects name item nothing_filed) now new → FiledPrefix (item_filed objects name item later) now new
-  item_prefix (Bare ref) h = more_later nothing_filed later later.changes refl h
-  item_prefix (File path) h = by (held objects name) h where
-    by : (found : Option (List ℕ)) → FiledPrefix (file_then path name found nothing_filed) now new → FiledPrefix (file_then path name found later) now new
-    by None k = more_later (file_then path name None nothing_filed) (file_then path name None later) [] refl k
-    by (Some bytes) k = more_later (file_then path name (Some bytes) nothing_filed) (file_then path name (Some bytes) later) later.changes refl k
-
-  item_stopped : (T U : Type 0) (item : Item) (fault : FilingFault) → FilesValues {T = T} (item_filed objects name item nothing_filed) now new (Err fault)
-      → FilesValues {T = U} (item_filed objects name item later) now new (Err fault)
-  item_stopped T U item (Missing name) h = item_missing item name h
-  item_stopped T U item StoreFailed h = item_prefix item h
-  item_stopped T U item FileFailed h = item_prefix item h
-  item_stopped T U item Memory h = item_prefix item h
+  first_stopped : (T U : Type 0) (fault : FilingFault) → FilesValues {T = T} first now new (Err fault) → FilesValues {T = U} (first ++ later) now new (Err fault)
+  first_stopped T U (Missing name) h = h
+  first_stopped T U StoreFailed h = first_prefix h
+  first_stopped T U FileFailed h = first_prefix h
+  first_stopped T U Memory h = first_prefix h
 
 -- ---- the items
 
-filed-end : (objects : Contents) (names : List ObjectName) (items : List Item) → (length names ≡ 0) ⊎ (length items ≡ 0) → filed objects names items ≡ nothing_filed
+filed-end : (objects : Contents) (names : List ObjectName) (items : List Item) → (length names ≡ 0) ⊎ (length items ≡ 0) → filed objects names items ≡ []
 unfolding filed
 filed-end objects [] items h = refl
 filed-end objects (name ∷ names) [] h = refl
 filed-end objects (name ∷ names) (item ∷ items) (inl h) = absurd (omega (arith, h))
 filed-end objects (name ∷ names) (item ∷ items) (inr h) = absurd (omega (arith, h))
 
-filed-next : (objects : Contents) (name : ObjectName) (names : List ObjectName) (item : Item) (items : List Item) → filed objects (name ∷ names) (item ∷ items) ≡ item_filed objects name item (filed objects names items)
+filed-next : (objects : Contents) (name : ObjectName) (names : List ObjectName) (item : Item) (items : List Item) → filed objects (name ∷ names) (item ∷ items) ≡ item_filed objects name item ++ filed objects names items
 unfolding filed
 filed-next objects name names item items = refl
 
 -- no item is left
-pub filed_all : (objects : Contents) (names : List ObjectName) (items : List Item) (filing : Filing) (before now : Files)
-    → HasFiled filing (filed objects names items) before now → (length names ≡ 0) ⊎ (length items ≡ 0) → FiledAll filing None before now
-filed_all objects names items filing before now h none =
-    all_filed filing nothing_filed before now now (subst (λ left. HasFiled filing left before now) (filed-end objects names items none) h) None (record { is_missing = refl; files = refl })
+pub filed_all : (objects : Contents) (names : List ObjectName) (items : List Item) (all : List Change) (before now : Filed)
+    → HasFiled all (filed objects names items) before now → (length names ≡ 0) ⊎ (length items ≡ 0) → now ≡ all_changed before all
+filed_all objects names items all before now h none =
+    h.files ∙ ap (λ l. all_changed before l) (sym (h.whole ∙ ap (λ l. h.part ++ l) (filed-end objects names items none) ∙ append-nil h.part))
+
+-- the value of the next item is held, and those after it
+pub next_held : (store : Store) (names more_names : List ObjectName) (name : ObjectName) → names ≡ name ∷ more_names → AreHeld store names → IsSome (held store.objects name) × AreHeld store more_names
+next_held store names more_names name names_are all = subst (λ (names : List ObjectName). AreHeld store names) names_are all
 
 module _ (old now_store : Store) (same : now_store ≡ old) (names more_names : List ObjectName) (items more_items : List Item) (name : ObjectName) (item : Item)
-    (names_are : names ≡ name ∷ more_names) (items_are : items ≡ item ∷ more_items) (filing : Filing) (before now new : Files) (so_far : HasFiled filing (filed old.objects names items) before now) where
-  next_item : HasFiled filing (item_filed old.objects name item (filed old.objects more_names more_items)) before now
-  next_item = subst (λ left. HasFiled filing left before now) ((λ i. filed old.objects (names_are i) (items_are i)) ∙ filed-next old.objects name more_names item more_items) so_far
+    (names_are : names ≡ name ∷ more_names) (items_are : items ≡ item ∷ more_items) (all : List Change) (before now new : Filed) (so_far : HasFiled all (filed old.objects names items) before now) where
+  abbrev next : List Change
+  next = item_filed old.objects name item
+
+  abbrev later : List Change
+  later = filed old.objects more_names more_items
+
+  next_item : HasFiled all (next ++ later) before now
+  next_item = subst (λ left. HasFiled all left before now) ((λ i. filed old.objects (names_are i) (items_are i)) ∙ filed-next old.objects name more_names item more_items) so_far
 
   -- one item more is done
-  pub filed_more : {T : Type 0} (v : T) (q : Result T FilingFault) → FilesValues (item_filed now_store.objects name item nothing_filed) now new q → q ≡ Ok v
-      → HasFiled filing (filed old.objects more_names more_items) before new
+  pub filed_more : {T : Type 0} (v : T) (q : Result T FilingFault) → FilesValues (item_filed now_store.objects name item) now new q → q ≡ Ok v → HasFiled all later before new
   filed_more {T = T} v q h is =
-      let here : FiledAll (item_filed old.objects name item nothing_filed) None now new = subst (λ (s : Store). FilesValues {T = T} (item_filed s.objects name item nothing_filed) now new (Ok v)) same (rw is at h) in
-      HasFiled-more filing (item_filed old.objects name item (filed old.objects more_names more_items)) before now new next_item (filed old.objects more_names more_items)
-      (item_done old.objects name (filed old.objects more_names more_items) now new item here)
+      let here : new ≡ all_changed now next = subst (λ (s : Store). FilesValues {T = T} (item_filed s.objects name item) now new (Ok v)) same (rw is at h) in
+      HasFiled-more all (next ++ later) before now new next_item later (record { part = next; whole = refl; files = here })
 
   -- the next item is stopped
-  pub filed_stop : {T U : Type 0} (q : Result T FilingFault) (r : Result U FilingFault) (e : FilingFault) → FilesValues (item_filed now_store.objects name item nothing_filed) now new q → q ≡ Err e
-      → IsErr r × IsErrAnd r (λ d. d ≡ e) → FilesValues filing before new r
+  pub filed_stop : {T U : Type 0} (q : Result T FilingFault) (r : Result U FilingFault) (e : FilingFault) → FilesValues (item_filed now_store.objects name item) now new q → q ≡ Err e
+      → IsErr r × IsErrAnd r (λ d. d ≡ e) → FilesValues all before new r
   filed_stop q (Ok v) e h was is = absurd is.1
   filed_stop {T = T} {U = U} q (Err d) e h was is =
-      let here = subst (λ (s : Store). FilesValues {T = T} (item_filed s.objects name item nothing_filed) now new (Err e)) same (rw was at h) in
-      rw is.1 (HasFiled-end filing (item_filed old.objects name item (filed old.objects more_names more_items)) before now new next_item {T = U} (Err e)
-      (item_stopped old.objects name (filed old.objects more_names more_items) now new T U item e here))
+      let here = subst (λ (s : Store). FilesValues {T = T} (item_filed s.objects name item) now new (Err e)) same (rw was at h) in
+      rw is.1 (HasFiled-end all (next ++ later) before now new next_item {T = U} (Err e) (first_stopped next later now new T U e here))
 
 -- ---- counts
 
@@ -163,9 +157,13 @@ FilingCause-earlier retries k l m f g h (Err FileFailed) kl fg c = omega (arith,
 FilingCause-earlier retries k l m f g h (Err Memory) kl fg c = tt
 
 -- what holds while values go to their files
-pub record IsFiling {K T : Type 0} (kept_tells files_tell : Type 0) (store : K → Store) (files : T → Files) (kept_faults : K → ℕ) (file_faults : T → ℕ)
+pub record IsFiling {K T : Type 0} (kept_tells files_tell : Type 0) (store : K → Store) (writes : K → List Write) (files : T → Files) (changes : T → List Change) (kept_faults kept_calls : K → ℕ) (file_faults file_calls : T → ℕ) (retries : ℕ)
     (names left_names : List ObjectName) (items left_items : List Item) (keeper_old keeper : K) (tree_old tree : T) : Type 0 where
-  pub done : kept_tells → files_tell → HasFiled (filed (store keeper_old).objects names items) (filed (store keeper_old).objects left_names left_items) (files tree_old) (files tree)
+  pub done : kept_tells → files_tell → HasFiled (filed (store keeper_old).objects names items) (filed (store keeper_old).objects left_names left_items) (filed_in files changes tree_old) (filed_in files changes tree)
+  pub held : kept_tells → AreHeld (store keeper_old) left_names
   pub same : kept_tells → store keeper ≡ store keeper_old
+  pub list : kept_tells → writes keeper ≡ writes keeper_old
   pub kept_later : kept_faults keeper_old ≤ kept_faults keeper
   pub files_later : file_faults tree_old ≤ file_faults tree
+  pub kept_tried : kept_tells → TriesAtMost retries kept_calls kept_faults keeper_old keeper 0
+  pub file_tried : files_tell → TriesAtMost retries file_calls file_faults tree_old tree 0

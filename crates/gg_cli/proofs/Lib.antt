@@ -3,7 +3,9 @@ pub mod PiecesJoin
 pub mod LinesAreWrittenInOrder
 pub mod WordsAreReadInOrder
 pub mod FilesAreWrittenInOrder
+pub mod ListsGrow
 pub mod EndsArePrefixes
 pub mod PartsCauseTheWhole
 pub mod StepsMakeTheAnswer
 pub mod LinesFitTheStatus
+pub mod TriesAddUp

@@ -16,13 +16,14 @@ pub record Printed (text left : List ℕ) (before after : Option (List ℕ)) (fa
   pub whole : text ≡ part ++ left
   pub grown : Appends before after part
   pub later : faults_before ≤ faults_after
+  pub most : faults_after ≤ faults_before
 
 -- what is written is written whole
 Printed-part : {T : Type 0} {text left : List ℕ} {b m : Option (List ℕ)} {f g : ℕ} (v : T) (h : Printed text left b m f g) → Writes h.part b m f g (Ok v)
 Printed-part v h = record {
   whole = h.grown;
   prefix = record { prefix = h.part; is_prefix = record { rest = []; whole = sym (append-nil h.part) }; grown = h.grown };
-  cause = record { later = h.later; failed = λ failed. cc };
+  cause = record { later = h.later; failed = λ failed. cc; most = omega (arith, h.most) };
 }
 
 -- nothing is left
@@ -52,6 +53,7 @@ module _ (names more_names : List ObjectName) (items more_items : List Item) (na
     whole = printed.whole ∙ ap (λ l. printed.part ++ l) next_line ∙ sym (append_assoc printed.part (value_line name item) (value_lines more_names more_items));
     grown = Appends-trans b m a printed.part (value_line name item) printed.grown (rw is_ok at written).whole;
     later = omega (arith, printed.later, written.cause.later);
+    most = omega (arith, printed.most, (rw is_ok at written).cause.most);
   }
 
   -- the next line is refused

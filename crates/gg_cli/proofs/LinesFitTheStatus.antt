@@ -4,7 +4,8 @@ use Rattle.std.specs.Prelude.{Option}
 use Rattle.std.proofs.KnownBytes.{Appends-nil}
 use Rattle.object_name.specs.Streams.{AppendsPrefix}
 use Rattle.blob_store.specs.Store.{Store}
-use Rattle.file_tree.specs.Files.{Files}
+use Rattle.blob_store.specs.Keeping.{Kept}
+use Rattle.file_tree.specs.Files.{Files, Filed}
 use Rattle.need_eval.specs.declared.fault.Refusal.TheVariants as refusals
 use Rattle.gg_cli.specs.declared.fault.TopFault.{TopFault}
 use Rattle.gg_cli.specs.declared.fault.TopFault.TheVariants as tops
@@ -13,8 +14,9 @@ use Rattle.gg_cli.specs.declared.words.Command.{Command}
 use Rattle.gg_cli.specs.Words.{command_of}
 use Rattle.gg_cli.specs.Answer.{Answer, answer_of, answer_of_command}
 use Rattle.gg_cli.specs.Endings.{ending_of, line_of}
-use Rattle.gg_cli.specs.Comes.{Made, Comes, Says, SaysWhole, SaysPrefix, status_line}
+use Rattle.gg_cli.specs.Comes.{Made, Comes, Says, SaysUntold, SaysWhole, SaysPrefix, status_line}
 use Rattle.gg_cli.specs.StepContracts.{EndsAt, Speaks, only_store}
+use Rattle.gg_cli.proofs.ListsGrow.{all_written-none, all_changed-none}
 use Rattle.gg_cli.proofs.EndsArePrefixes.{AppendsPrefix-whole, Comes-memory}
 
 -- ---- the answer, by the words
@@ -23,10 +25,10 @@ pub answer_of-found : (words : List (List ℕ)) (store : Store) (files : Files) 
 unfolding answer_of
 answer_of-found words store files command is = ap (λ found. answer_of_command found store files) is
 
-pub usage_ends : (words : List (List ℕ)) (store : Store) (files : Files) (told : Option (List ℕ)) → command_of words ≡ None
-    → EndsAt (answer_of words store files) (only_store store store files told) tops.Usage
+pub usage_ends : (words : List (List ℕ)) (kept : Kept) (files : Filed) (told : Option (List ℕ)) → command_of words ≡ None
+    → EndsAt (answer_of words kept.store files.files) (only_store kept kept files told) tops.Usage
 unfolding answer_of
-usage_ends words store files told is = rw is (record { comes = record { is_status = refl; all = record { after = refl; files = refl }; text = Appends-nil told }; line = refl })
+usage_ends words kept files told is = rw is (record { comes = record { is_status = refl; all = record { kept = all_written-none kept; files = all_changed-none files }; text = Appends-nil told }; line = refl })
 
 -- ---- the status and the line
 
@@ -53,6 +55,20 @@ fault_says a tops.Memory b c f g prefix whole = prefix
 fault_says a (tops.Refused (refusals.Missing name)) b c f g prefix whole = whole
 fault_says a (tops.Refused refusal) b c f g prefix whole = whole
 fault_says a fault b c f g prefix whole = whole
+
+-- the line that a status alone decides
+untold_line : (fault : TopFault) (b c : Option (List ℕ)) (f g : ℕ) → SaysWhole (line_of fault) b c f g → SaysUntold (ending_of fault).status b c f g
+untold_line tops.Usage b c f g said = said
+untold_line tops.StoreFailed b c f g said = said
+untold_line tops.FileFailed b c f g said = said
+untold_line tops.OutputFailed b c f g said = said
+untold_line (tops.Refused (refusals.Missing name)) b c f g said = tt
+untold_line (tops.Refused refusal) b c f g said = tt
+untold_line fault b c f g said = tt
+
+pub says_untold : (fault : TopFault) (status : Status) (b c : Option (List ℕ)) (f g : ℕ) → Speaks fault status b c f g → SaysUntold status b c f g
+says_untold fault status b c f g (inl h) = rw h.0 (untold_line fault b c f g h.1)
+says_untold fault status b c f g (inr h) = rw h.0 tt
 
 pub top_says : (a : Answer) (m : Made) (fault : TopFault) (status : Status) (b c : Option (List ℕ)) (f g : ℕ) → EndsAt a m fault → Speaks fault status b c f g → Says a status b c f g
 top_says a m fault status b c f g ends (inl h) =

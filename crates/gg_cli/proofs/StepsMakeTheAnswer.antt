@@ -1,5 +1,5 @@
 -- How each step of `force` ended makes the answer of the whole.
-use Rattle.std.proofs.Common.{◌≡◌, ℕ, List, [], ◌∷◌, Option, Some, None, Result, Ok, Err, inl, inr, refl, sym, subst, ◌∙◌, append-nil}
+use Rattle.std.proofs.Common.{◌≡◌, ℕ, List, [], ◌∷◌, Option, Result, Ok, Err, inl, inr, refl, sym, subst, ◌∙◌, append-nil}
 use Rattle.std.specs.List.{AllByRecursion}
 use Rattle.std.specs.Io.KnownBytes.{Appends}
 use Rattle.std.proofs.KnownBytes.{Appends-nil}
@@ -8,7 +8,9 @@ use Rattle.object_name.specs.declared.trouble.Trouble.{Trouble}
 use Rattle.thunk_codec.specs.declared.reference.Ref.{Ref}
 use Rattle.thunk_codec.specs.declared.job.Job.{Job}
 use Rattle.blob_store.specs.Store.{Store, Write, written}
-use Rattle.file_tree.specs.Files.{Files, Change}
+use Rattle.blob_store.specs.Keeping.{Kept}
+use Rattle.file_tree.specs.Files.{Filed}
+use Rattle.file_tree.specs.declared.change.Change.{Change}
 use Rattle.file_tree.specs.WantAnswers.{Answers, WantCause}
 use Rattle.file_tree.specs.declared.item.Item.{Item}
 use Rattle.file_tree.specs.declared.refusal.FileRefusal.{FileRefusal}
@@ -18,12 +20,13 @@ use Rattle.need_eval.specs.declared.fault.Refusal.{Refusal}
 use Rattle.need_eval.specs.declared.fault.Refusal.TheVariants as refusals
 use Rattle.need_eval.specs.declared.fault.EvalFault.{EvalFault}
 use Rattle.need_eval.specs.declared.fault.EvalFault.TheVariants as faults
-use Rattle.need_eval.specs.Eval.{Ended, Got, Stopped, Stop, Refused, Clash, start}
+use Rattle.need_eval.specs.Eval.{State, Ended, Got, Stopped, Stop, Refused, Clash, start}
 use Rattle.need_eval.specs.Evaluation.{values_of, by_function}
 use Rattle.need_eval.specs.declared.evaluating.Values.{Values}
 use Rattle.need_eval.specs.Evaluating.{EvaluatesAll}
-use Rattle.need_eval.specs.WritePrefix.{state_after, IsWritePrefix, Yields, StopsWith, Stops}
-use Rattle.need_eval.proofs.PublicLaws.{store_is_written}
+use Rattle.need_eval.specs.WritePrefix.{state_after, ListsMade, ListsAll, StopsPartWay, Yields, StopsWith, Stops}
+use Rattle.need_eval.specs.MetObjects.{AreHeld}
+use Rattle.need_eval.proofs.PublicLaws.{store_is_written, values-held, outputs-begin}
 use Rattle.sandbox_run.specs.Cards.{card_outcome}
 use Rattle.gg_cli.specs.declared.fault.TopFault.{TopFault}
 use Rattle.gg_cli.specs.declared.fault.TopFault.TheVariants as tops
@@ -31,13 +34,13 @@ use Rattle.gg_cli.specs.declared.fault.FilingFault.{FilingFault}
 use Rattle.gg_cli.specs.declared.fault.FilingFault.TheVariants as filings
 use Rattle.gg_cli.specs.Endings.{ending_of}
 use Rattle.gg_cli.specs.ValueLines.{value_lines}
-use Rattle.gg_cli.specs.ValueFiles.{Filing, filed}
-use Rattle.gg_cli.specs.Answer.{ended_by, forced, handed_out, filed_by, wanted_forced}
+use Rattle.gg_cli.specs.ValueFiles.{filed}
+use Rattle.gg_cli.specs.Answer.{done, ended_by, forced, wanted_forced}
 use Rattle.gg_cli.specs.LowerFaults.{IsFaultOf, want_fault, filing_fault}
-use Rattle.gg_cli.specs.Comes.{Made, Counts, MadePrefix, MadeAll, TopCause}
-use Rattle.gg_cli.specs.StepContracts.{EndsAt, Ends, HasValues, HandsOut, FiledAll, FiledPrefix, FilesValues, FilingCause, only_store}
+use Rattle.gg_cli.specs.Comes.{Made, Counts, MadePrefix, MadeAll, ChangesPrefix, TopCause, all_written, all_changed}
+use Rattle.gg_cli.specs.StepContracts.{EndsAt, Ends, HasValues, HandsOut, FilesValues, FilingCause, only_store}
 use Rattle.gg_cli.specs.Writing.{Writes}
-use Rattle.gg_cli.proofs.EndsArePrefixes.{AppendsPrefix-nil}
+use Rattle.gg_cli.proofs.ListsGrow.{all_written-none, all_changed-none}
 
 -- ---- evaluation
 
@@ -52,129 +55,134 @@ refused_ends : (writes : List Write) (changes : List Change) (m : Made) (refusal
 refused_ends writes changes m (refusals.Missing name) all text = record { comes = record { is_status = refl; all = all; text = text }; line = refl }
 refused_ends writes changes m refusal all text = record { comes = record { is_status = refl; all = all; text = text }; line = refl }
 
-filed_by-writes : (writes : List Write) (changes : List Change) (text : List ℕ) (missing : Option ObjectName) → (filed_by writes changes text missing).writes ≡ writes
-filed_by-writes writes changes text None = refl
-filed_by-writes writes changes text (Some name) = refl
-
 -- the answer's writes are those of the evaluation
 forced_writes : (items : List Item) (e : Ended (List ObjectName)) → (forced items e).writes ≡ (state_after e).writes
-forced_writes items (Got names s) = filed_by-writes s.writes (filed s.store.objects names items).changes (value_lines names items) (filed s.store.objects names items).missing
+forced_writes items (Got names s) = refl
 forced_writes items (Stopped why s) = refl
 
-module _ (e : Ended (List ObjectName)) (before after : Store) (law : (state_after e).store ≡ written before (state_after e).writes) where
+module _ (e : Ended (List ObjectName)) (before after : Kept) (law : (state_after e).store ≡ written before.store (state_after e).writes) where
   -- the evaluation gave names
-  has_values : (names : List ObjectName) (steps : ℕ) → Yields names steps e after → HasValues e names before after
-  has_values names steps gives =
+  has_values : (names : List ObjectName) (steps : ℕ) → ((last : State) → e ≡ Got names last → AreHeld last.store names) → Yields names steps e after.store → ListsAll before.writes e after → HasValues e names before after
+  has_values names steps held gives list =
       let kept = rw gives.got at law in
-      record { last = gives.last; got = gives.got; store = gives.store; writes = gives.store ∙ kept }
+      let writes = rw gives.got at list in
+      record { last = gives.last; got = gives.got; store = gives.store; writes = λ i. record { store = (gives.store ∙ kept) i; writes = writes i }; held = subst (λ (s : Store). AreHeld s names) (sym gives.store) (held gives.last gives.got) }
 
-  module _ (items : List Item) (files : Files) (told : Option (List ℕ)) where
+  module _ (items : List Item) (files : Filed) (told : Option (List ℕ)) where
     -- a prefix of its writes is a prefix of the answer's
-    made_prefix : IsWritePrefix (start before) e after → MadePrefix (forced items e) (only_store before after files told)
+    made_prefix : StopsPartWay before.writes (start before.store) e after → MadePrefix (forced items e) (only_store before after files told)
     made_prefix h = inl (record {
-      prefix = h.prefix;
-      is_prefix = record { rest = h.others; whole = forced_writes items e ∙ h.list };
-      after = h.kept;
+      kept = record {
+        prefix = h.part.prefix;
+        is_prefix = record { rest = h.part.others; whole = forced_writes items e ∙ h.part.list };
+        store = h.part.kept;
+        listed = subst (λ l. ListsMade l h.part.prefix after.writes) (append-nil before.writes) h.listed;
+      };
       files = refl;
     })
 
     -- the evaluation stopped, and all of its writes are made
-    stopped_all : (why : Stop) → StopsWith why e after → MadeAll (forced items e) (only_store before after files told)
-    stopped_all why h =
+    stopped_all : (why : Stop) → StopsWith why e after.store → ListsAll before.writes e after → MadeAll (forced items e) (only_store before after files told)
+    stopped_all why h list =
         let kept = rw h.stopped at law in
-        rw h.stopped (record { after = h.store ∙ kept; files = refl })
+        let writes = rw h.stopped at list in
+        rw h.stopped (record { kept = λ i. record { store = (h.store ∙ kept) i; writes = writes i }; files = all_changed-none files })
 
     -- the evaluation ended at a fault
-    ends_at : (fault : EvalFault) (top : TopFault) → Stops (start before) e after fault → IsFaultOf fault top → EndsAt (forced items e) (only_store before after files told) top
+    ends_at : (fault : EvalFault) (top : TopFault) → Stops before.writes (start before.store) e after fault → IsFaultOf fault top → EndsAt (forced items e) (only_store before after files told) top
     ends_at (faults.Refused refusal) top h is =
-        let all = rw h.stopped at (stopped_all (Refused refusal) h) in
-        rw (is, h.stopped) (refused_ends _ [] _ refusal all (Appends-nil told))
+        let all = rw h.0.stopped at (stopped_all (Refused refusal) h.0 h.1) in
+        rw (is, h.0.stopped) (refused_ends _ [] _ refusal all (Appends-nil told))
     ends_at (faults.Clash name found fresh) top h is =
-        let all = rw h.stopped at (stopped_all (Clash name found fresh) h) in
-        rw (is, h.stopped) (record { comes = record { is_status = refl; all = all; text = Appends-nil told }; line = refl })
+        let all = rw h.0.stopped at (stopped_all (Clash name found fresh) h.0 h.1) in
+        rw (is, h.0.stopped) (record { comes = record { is_status = refl; all = all; text = Appends-nil told }; line = refl })
     ends_at faults.StoreFailed top h is = rw is (record { comes = record { prefix = made_prefix h; no_text = Appends-nil told }; line = refl })
     ends_at faults.RunFailed top h is = absurd is
-    ends_at faults.Memory top h is = rw is (record { comes = record { prefix = made_prefix h; text = AppendsPrefix-nil told _ }; line = refl })
+    ends_at faults.Memory top h is = rw is (record { comes = inl (record { prefix = made_prefix h; no_text = Appends-nil told }); line = refl })
 
-module _ (budget : ℕ) (refs : List Ref) (before after : Store) where
+module _ (budget : ℕ) (refs : List Ref) (before after : Kept) where
   -- `evaluate` gave values
   pub values_found : (values : Values) → EvaluatesAll (λ job. Unit {0}) card_outcome budget refs before after (Ok values)
-      → HasValues (values_of (by_function card_outcome) budget refs (start before)) values.names before after
-  values_found values does = has_values _ before after (store_is_written (by_function card_outcome) budget refs before) values.names values.steps (does (all_told _))
+      → HasValues (values_of (by_function card_outcome) budget refs (start before.store)) values.names before after
+  values_found values does =
+      has_values _ before after (store_is_written (by_function card_outcome) budget refs before.store) values.names values.steps
+      (λ last got. values-held (by_function card_outcome) budget refs (start before.store) values.names last (outputs-begin before.store) got) (does (all_told _)).0 (does (all_told _)).1
 
   -- `evaluate` ended at a fault
   pub fault_found : (fault : EvalFault) (top : TopFault) → EvaluatesAll (λ job. Unit {0}) card_outcome budget refs before after (Err fault) → IsFaultOf fault top
-      → (items : List Item) (files : Files) (told : Option (List ℕ)) → EndsAt (forced items (values_of (by_function card_outcome) budget refs (start before))) (only_store before after files told) top
-  fault_found fault top does is items files told = ends_at _ before after (store_is_written (by_function card_outcome) budget refs before) items files told fault top (does (all_told _)) is
+      → (items : List Item) (files : Filed) (told : Option (List ℕ)) → EndsAt (forced items (values_of (by_function card_outcome) budget refs (start before.store))) (only_store before after files told) top
+  fault_found fault top does is items files told = ends_at _ before after (store_is_written (by_function card_outcome) budget refs before.store) items files told fault top (does (all_told _)) is
 
 -- ---- the files and the text
 
 -- what was there before and after handing out
-abbrev pub handed : Store → Store → Files → Files → Option (List ℕ) → Option (List ℕ) → Made
+abbrev pub handed : Kept → Kept → Filed → Filed → Option (List ℕ) → Option (List ℕ) → Made
 handed before after files_before files_after out_before out_after =
     record { kept_before = before; kept_after = after; files_before = files_before; files_after = files_after; out_before = out_before; out_after = out_after }
 
-module _ (writes : List Write) (text : List ℕ) (before after : Store) (made : after ≡ written before writes) (files_before files_after : Files) (told : Option (List ℕ)) where
-  filing_prefix : (filing : Filing) (missing : Option ObjectName) → FiledPrefix filing files_before files_after
-      → MadePrefix (filed_by writes filing.changes text missing) (handed before after files_before files_after told told)
-  filing_prefix filing None h = inr (record { after = made; prefix = h.prefix; is_prefix = h.is_prefix; files = h.files })
-  filing_prefix filing (Some name) h = inr (record { after = made; prefix = h.prefix; is_prefix = h.is_prefix; files = h.files })
+module _ (writes : List Write) (text : List ℕ) (before after : Kept) (made : after ≡ all_written before writes) (files_before files_after : Filed) (told : Option (List ℕ)) where
+  filing_prefix : (changes : List Change) → ChangesPrefix changes files_before files_after → MadePrefix (done writes changes text) (handed before after files_before files_after told told)
+  filing_prefix changes h = inr (record { kept = made; files = h })
 
   -- the values didn't all go to their files
-  pub filing_ends : (T : Type 0) (filing : Filing) (fault : FilingFault) → FilesValues {T = T} filing files_before files_after (Err fault)
-      → EndsAt (filed_by writes filing.changes text filing.missing) (handed before after files_before files_after told told) (filing_fault fault)
-  filing_ends T filing (filings.Missing name) h =
-      rw h.is_missing (record { comes = record { is_status = refl; all = record { after = made; files = h.files }; text = Appends-nil told }; line = refl })
-  filing_ends T filing filings.StoreFailed h = record { comes = record { prefix = filing_prefix filing filing.missing h; no_text = Appends-nil told }; line = refl }
-  filing_ends T filing filings.FileFailed h = record { comes = record { prefix = filing_prefix filing filing.missing h; no_text = Appends-nil told }; line = refl }
-  filing_ends T filing filings.Memory h = record { comes = record { prefix = filing_prefix filing filing.missing h; text = AppendsPrefix-nil told _ }; line = refl }
+  pub filing_ends : (T : Type 0) (changes : List Change) (fault : FilingFault) → FilesValues {T = T} changes files_before files_after (Err fault)
+      → EndsAt (done writes changes text) (handed before after files_before files_after told told) (filing_fault fault)
+  filing_ends T changes (filings.Missing name) h = absurd h
+  filing_ends T changes filings.StoreFailed h = record { comes = record { prefix = filing_prefix changes h; no_text = Appends-nil told }; line = refl }
+  filing_ends T changes filings.FileFailed h = record { comes = record { prefix = filing_prefix changes h; no_text = Appends-nil told }; line = refl }
+  filing_ends T changes filings.Memory h = record { comes = inl (record { prefix = filing_prefix changes h; no_text = Appends-nil told }); line = refl }
 
-module _ (writes : List Write) (text : List ℕ) (before after : Store) (made : after ≡ written before writes) (files_before files_after : Files) (b c : Option (List ℕ)) (f g : ℕ)
-    (filing : Filing) (all : FiledAll filing None files_before files_after) where
+module _ (writes : List Write) (text : List ℕ) (before after : Kept) (made : after ≡ all_written before writes) (files_before files_after : Filed) (b c : Option (List ℕ)) (f g : ℕ)
+    (changes : List Change) (all : files_after ≡ all_changed files_before changes) where
   -- all went to their files, and the text was written
-  pub printed_done : {T : Type 0} (v : T) → Writes text b c f g (Ok v) → Ends {T = T} (filed_by writes filing.changes text filing.missing) (handed before after files_before files_after b c) (Ok v)
-  printed_done v h = rw all.is_missing (record { is_status = refl; all = record { after = made; files = all.files }; text = h.whole })
+  pub printed_done : {T : Type 0} (v : T) → Writes text b c f g (Ok v) → Ends {T = T} (done writes changes text) (handed before after files_before files_after b c) (Ok v)
+  printed_done v h = record { is_status = refl; all = record { kept = made; files = all }; text = h.whole }
 
   -- or a prefix of it
-  pub printed_failed : (T : Type 0) (e : Trouble) → Writes {T = T} text b c f g (Err e) → EndsAt (filed_by writes filing.changes text filing.missing) (handed before after files_before files_after b c) tops.OutputFailed
-  printed_failed T e h = rw all.is_missing (record { comes = record { done = refl; all = record { after = made; files = all.files }; text = h.prefix }; line = refl })
+  pub printed_failed : (T : Type 0) (e : Trouble) → Writes {T = T} text b c f g (Err e) → EndsAt (done writes changes text) (handed before after files_before files_after b c) tops.OutputFailed
+  printed_failed T e h = record { comes = record { done = refl; prints = record { all = record { kept = made; files = all }; text = h.prefix } }; line = refl }
 
-  pub printed_part : (T : Type 0) (e : Trouble) → Writes {T = T} text b c f g (Err e) → EndsAt (filed_by writes filing.changes text filing.missing) (handed before after files_before files_after b c) tops.Memory
-  printed_part T e h = rw all.is_missing (record {
-    comes = record {
-      prefix = inr (record { after = made; prefix = filing.changes; is_prefix = record { rest = []; whole = sym (append-nil filing.changes) }; files = all.files });
-      text = h.prefix;
-    };
+  pub printed_part : (T : Type 0) (e : Trouble) → Writes {T = T} text b c f g (Err e) → EndsAt (done writes changes text) (handed before after files_before files_after b c) tops.Memory
+  printed_part T e h = record {
+    comes = inr (record { all = record { kept = made; files = all }; text = h.prefix });
     line = refl;
-  })
+  }
 
 -- ---- the items
 
-module _ (budget : ℕ) (items : List Item) (store : Store) (files files_after : Files) (same : files_after ≡ files) (told : Option (List ℕ)) (found : Result (List Ref) FileRefusal) where
+module _ (budget : ℕ) (items : List Item) (kept : Kept) (files files_after : Filed) (same : files_after ≡ files) (told : Option (List ℕ)) (found : Result (List Ref) FileRefusal) where
   -- nothing was done yet
-  untouched : MadePrefix (wanted_forced budget items store found) (handed store store files files_after told told)
-  untouched = inl (record { prefix = []; is_prefix = record { rest = (wanted_forced budget items store found).writes; whole = refl }; after = refl; files = same })
+  untouched : MadePrefix (wanted_forced budget items kept.store found) (handed kept kept files files_after told told)
+  untouched = inl (record {
+    kept = record {
+      prefix = [];
+      is_prefix = record { rest = (wanted_forced budget items kept.store found).writes; whole = refl };
+      store = refl;
+      listed = inl (sym (append-nil kept.writes));
+    };
+    files = same;
+  })
 
   -- an item was refused, or the tree failed
-  pub want_ends : (fault : WantFault) → Answers {T = List Ref} found (Err fault) → EndsAt (wanted_forced budget items store found) (handed store store files files_after told told) (want_fault fault)
-  want_ends (wants.Refused refusal) h = rw h (record { comes = record { is_status = refl; all = record { after = refl; files = same }; text = Appends-nil told }; line = refl })
+  pub want_ends : (fault : WantFault) → Answers {T = List Ref} found (Err fault) → EndsAt (wanted_forced budget items kept.store found) (handed kept kept files files_after told told) (want_fault fault)
+  want_ends (wants.Refused refusal) h = rw h (record { comes = record { is_status = refl; all = record { kept = all_written-none kept; files = same ∙ all_changed-none files }; text = Appends-nil told }; line = refl })
   want_ends wants.Failed h = record { comes = record { prefix = untouched; no_text = Appends-nil told }; line = refl }
-  want_ends wants.Memory h = record { comes = record { prefix = untouched; text = AppendsPrefix-nil told _ }; line = refl }
+  want_ends wants.Memory h = record { comes = inl (record { prefix = untouched; no_text = Appends-nil told }); line = refl }
 
-module _ (budget : ℕ) (items : List Item) (before now : Store) (files files_after : Files) (same : files_after ≡ files) (refs : List Ref) (found : Result (List Ref) FileRefusal) (is : found ≡ Ok refs) where
+module _ (budget : ℕ) (items : List Item) (before now : Kept) (files files_after : Filed) (same : files_after ≡ files) (refs : List Ref) (found : Result (List Ref) FileRefusal) (is : found ≡ Ok refs) where
   -- the evaluation ended at a fault
   pub values_end : (told : Option (List ℕ)) (fault : TopFault)
-      → ((items : List Item) (files : Files) (told : Option (List ℕ)) → EndsAt (forced items (values_of (by_function card_outcome) budget refs (start before))) (only_store before now files told) fault)
-      → EndsAt (wanted_forced budget items before found) (handed before now files files_after told told) fault
-  values_end told fault h = rw is (subst (λ (f : Files). EndsAt (forced items (values_of (by_function card_outcome) budget refs (start before))) (handed before now files f told told) fault) (sym same) (h items files told))
+      → ((items : List Item) (files : Filed) (told : Option (List ℕ)) → EndsAt (forced items (values_of (by_function card_outcome) budget refs (start before.store))) (only_store before now files told) fault)
+      → EndsAt (wanted_forced budget items before.store found) (handed before now files files_after told told) fault
+  values_end told fault h = rw is (subst (λ (f : Filed). EndsAt (forced items (values_of (by_function card_outcome) budget refs (start before.store))) (handed before now files f told told) fault) (sym same) (h items files told))
 
   -- the values were handed out
-  pub hands_end : {T : Type 0} (names : List ObjectName) (after : Store) (files_last : Files) (b c : Option (List ℕ)) (r : Result T TopFault)
-      → HasValues (values_of (by_function card_outcome) budget refs (start before)) names before now → HandsOut names items now after files_after files_last b c r
-      → Ends (wanted_forced budget items before found) (handed before after files files_last b c) r
+  pub hands_end : {T : Type 0} (names : List ObjectName) (after : Kept) (files_last : Filed) (b c : Option (List ℕ)) (r : Result T TopFault)
+      → HasValues (values_of (by_function card_outcome) budget refs (start before.store)) names before now → HandsOut names items now after files_after files_last b c r
+      → Ends (wanted_forced budget items before.store found) (handed before after files files_last b c) r
   hands_end names after files_last b c r h out =
-      let here = subst (λ (f : Files). Ends (handed_out h.last.writes names items (filed now.objects names items)) (handed before after f files_last b c) r) same (out before h.last.writes h.writes) in
-      let there = subst (λ (s : Store). Ends (handed_out h.last.writes names items (filed s.objects names items)) (handed before after files files_last b c) r) h.store here in
+      let here = subst (λ (f : Filed). Ends (done h.last.writes (filed now.store.objects names items) (value_lines names items)) (handed before after f files_last b c) r) same (out before h.last.writes h.writes) in
+      let there = subst (λ (s : Store). Ends (done h.last.writes (filed s.objects names items) (value_lines names items)) (handed before after files files_last b c) r) h.store here in
       rw (is, h.got) there
 
 -- ---- causes

@@ -34,17 +34,22 @@ whole_after b m a x y (Err e) first second = tt
 pub Writes-then : {T U : Type 0} {x y : List ℕ} {b m a : Option (List ℕ)} {f g h : ℕ} {v : T} {q : Result T Trouble} {r : Result U Trouble}
     → Writes x b m f g q → q ≡ Ok v → Writes y m a g h r → Writes (x ++ y) b a f h r
 Writes-then {x = x} {y = y} {b = b} {m = m} {a = a} {r = r} first is_ok second =
-    let whole = (rw is_ok at first).whole in
+    let done = rw is_ok at first in
+    let whole = done.whole in
     record {
       whole = whole_after b m a x y r whole second.whole;
       prefix = AppendsPrefix-after b m a x y whole second.prefix;
-      cause = record { later = omega (arith, first.cause.later, second.cause.later); failed = λ failed. omega (arith, first.cause.later, second.cause.failed failed) };
+      cause = record {
+        later = omega (arith, first.cause.later, second.cause.later);
+        failed = λ failed. omega (arith, first.cause.later, second.cause.failed failed);
+        most = omega (arith, done.cause.most, second.cause.most);
+      };
     }
 
 -- a refusal, whatever it would have given
 Refused-cause : {T U : Type 0} (f g : ℕ) (e : Trouble) → HasCause {T = T} f g (Err e) → HasCause {T = U} f g (Err e)
-Refused-cause f g Failed h = record { later = h.later; failed = λ _. h.failed refl }
-Refused-cause f g Memory h = record { later = h.later; failed = λ failed. absurd (cc failed) }
+Refused-cause f g Failed h = record { later = h.later; failed = λ _. h.failed refl; most = h.most }
+Refused-cause f g Memory h = record { later = h.later; failed = λ failed. absurd (cc failed); most = h.most }
 
 -- the refusal that a `?` hands on
 handed_on : {U : Type 0} (r : Result U Trouble) (e : Trouble) → IsErrAnd r (λ d. d ≡ e) → r ≡ Err e

@@ -4,11 +4,11 @@ use Rattle.std.specs.Prelude.{ℕ, List, [], Option, Some, None, Result, Ok, Err
 use Rattle.object_name.specs.Name.{ObjectName}
 use Rattle.thunk_codec.specs.declared.reference.Ref.{Ref}
 use Rattle.blob_store.specs.Store.{Store, Write}
-use Rattle.file_tree.specs.Files.{Files, Change}
+use Rattle.file_tree.specs.Files.{Files}
+use Rattle.file_tree.specs.declared.change.Change.{Change}
 use Rattle.file_tree.specs.Wanted.{wanted_of}
 use Rattle.file_tree.specs.declared.item.Item.{Item}
 use Rattle.file_tree.specs.declared.refusal.FileRefusal.{FileRefusal}
-use Rattle.need_eval.specs.declared.fault.Refusal.TheVariants as refusals
 use Rattle.need_eval.specs.Eval.{Stop, Refused, Clash, Stands, Ended, Got, Stopped, start}
 use Rattle.need_eval.specs.Evaluation.{values_of, by_function}
 use Rattle.gg_cli.specs.declared.fault.TopFault.{TopFault}
@@ -21,7 +21,7 @@ use Rattle.gg_cli.specs.Words.{command_of}
 use Rattle.sandbox_run.specs.Cards.{card_outcome}
 use Rattle.gg_cli.specs.Endings.{ending_of, line_of}
 use Rattle.gg_cli.specs.ValueLines.{value_lines}
-use Rattle.gg_cli.specs.ValueFiles.{Filing, filed}
+use Rattle.gg_cli.specs.ValueFiles.{filed}
 
 -- what a command line is to do: the writes to the store in order, then the changes of files in order, the status, what is
 -- printed, and the line of the fault, if there is one
@@ -46,18 +46,10 @@ stop_fault (Refused refusal) = faults.Refused refusal
 stop_fault (Clash name found fresh) = faults.Clash name
 stop_fault (Stands text job) = faults.Memory
 
--- the answer by what goes to files: a value that isn't held then is a missing object
-abbrev pub filed_by : List Write → List Change → List ℕ → Option ObjectName → Answer
-filed_by writes changes text None = done writes changes text
-filed_by writes changes text (Some name) = ended_by writes changes (faults.Refused (refusals.Missing name))
-
--- the answer where these are the values: they go to the files that wanted them, and then they are printed
-abbrev pub handed_out : List Write → List ObjectName → List Item → Filing → Answer
-handed_out writes names items filing = filed_by writes filing.changes (value_lines names items) filing.missing
-
--- the answer by the end of the evaluation
+-- the answer by the end of the evaluation: only where it gives all values they go to the files that wanted them, and then they
+-- are printed
 abbrev pub forced : List Item → Ended (List ObjectName) → Answer
-forced items (Got names s) = handed_out s.writes names items (filed s.store.objects names items)
+forced items (Got names s) = done s.writes (filed s.store.objects names items) (value_lines names items)
 forced items (Stopped why s) = ended_by s.writes [] (stop_fault why)
 
 -- the answer by the references of the items: they are evaluated, unless an item is refused

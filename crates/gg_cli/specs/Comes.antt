@@ -1,12 +1,15 @@
 -- When each status comes, and what it leaves, by the answer of the definition.
-use Rattle.std.specs.Prelude.{◌≡◌, ◌⊎◌, ℕ, List, [], Option}
+use Rattle.std.specs.Prelude.{◌≡◌, ◌⊎◌, ℕ, List, [], ◌++◌, Option}
 use Rattle.std.specs.Io.KnownBytes.{Appends}
 use Rattle.object_name.specs.Causes.{Rose, RoseBy}
 use Rattle.object_name.specs.Streams.{IsPrefix, AppendsPrefix}
-use Rattle.blob_store.specs.Store.{Store, Write, written}
-use Rattle.file_tree.specs.Files.{Files, Change, changed}
+use Rattle.blob_store.specs.Store.{Write, written}
+use Rattle.blob_store.specs.Keeping.{Kept}
+use Rattle.file_tree.specs.Files.{Filed, changed}
+use Rattle.file_tree.specs.declared.change.Change.{Change}
+use Rattle.need_eval.specs.WritePrefix.{ListsMade}
 use Rattle.gg_cli.specs.declared.status.Status.{Status}
-use Rattle.gg_cli.specs.declared.status.Status.TheVariants.{Done, StoreFault, FileFault, ByteFault, Memory}
+use Rattle.gg_cli.specs.declared.status.Status.TheVariants.{Done, Usage, StoreFault, FileFault, ByteFault, Memory}
 use Rattle.gg_cli.specs.declared.fault.TopFault.TheVariants as faults
 use Rattle.gg_cli.specs.Endings.{line_of}
 use Rattle.gg_cli.specs.Answer.{Answer}
@@ -20,9 +23,10 @@ pub record Around (A B C : Type 0) : Type 0 where
   pub out_before : C
   pub out_after : C
 
--- what they hold: the store, the files, and the bytes on the output where they are told
+-- what they hold: the store and the list of its writes, the files and the list of their changes, and the bytes on the output where
+-- they are told
 abbrev pub Made : Type 0
-Made = Around Store Files (Option (List ℕ))
+Made = Around Kept Filed (Option (List ℕ))
 
 -- their counts of faults
 abbrev pub Counts : Type 0
@@ -39,19 +43,37 @@ around kept files out keeper keeper_after tree tree_after sink sink_after = reco
   out_after = out sink_after;
 }
 
+-- after these writes, each of which was answered Ok, once and in order
+abbrev pub all_written : Kept → List Write → Kept
+all_written before writes = record { store = written before.store writes; writes = before.writes ++ writes }
+
+-- after these changes, each of which was answered Ok, once and in order
+abbrev pub all_changed : Filed → List Change → Filed
+all_changed before changes = record { files = changed before.files changes; changes = before.changes ++ changes }
+
+-- a prefix of these writes was made, each once and in order: the last of them may have failed
+pub record WritesPrefix (writes : List Write) (before after : Kept) : Type 0 where
+  pub prefix : List Write
+  pub is_prefix : IsPrefix prefix writes
+  pub store : after.store ≡ written before.store prefix
+  pub listed : ListsMade before.writes prefix after.writes
+
+-- a prefix of these changes was made, each once and in order: the last of them may have failed
+pub record ChangesPrefix (changes : List Change) (before after : Filed) : Type 0 where
+  pub prefix : List Change
+  pub is_prefix : IsPrefix prefix changes
+  pub files : after.files ≡ changed before.files prefix
+  pub listed : ListsMade before.changes prefix after.changes
+
 -- a prefix of the answer's writes was made, and no file was changed
 pub record MadeWrites (a : Answer) (m : Made) : Type 0 where
-  pub prefix : List Write
-  pub is_prefix : IsPrefix prefix a.writes
-  pub after : m.kept_after ≡ written m.kept_before prefix
+  pub kept : WritesPrefix a.writes m.kept_before m.kept_after
   pub files : m.files_after ≡ m.files_before
 
 -- all of the answer's writes were made, and a prefix of its changes of files
 pub record MadeChanges (a : Answer) (m : Made) : Type 0 where
-  pub after : m.kept_after ≡ written m.kept_before a.writes
-  pub prefix : List Change
-  pub is_prefix : IsPrefix prefix a.changes
-  pub files : m.files_after ≡ changed m.files_before prefix
+  pub kept : m.kept_after ≡ all_written m.kept_before a.writes
+  pub files : ChangesPrefix a.changes m.files_before m.files_after
 
 -- a prefix of all that the answer does was made
 abbrev pub MadePrefix : Answer → Made → Type 0
@@ -59,8 +81,8 @@ MadePrefix a m = MadeWrites a m ⊎ MadeChanges a m
 
 -- all that the answer does was made
 pub record MadeAll (a : Answer) (m : Made) : Type 0 where
-  pub after : m.kept_after ≡ written m.kept_before a.writes
-  pub files : m.files_after ≡ changed m.files_before a.changes
+  pub kept : m.kept_after ≡ all_written m.kept_before a.writes
+  pub files : m.files_after ≡ all_changed m.files_before a.changes
 
 -- the answer, whole
 pub record IsWhole (a : Answer) (m : Made) (status : Status) : Type 0 where
@@ -73,16 +95,19 @@ pub record IsCallFault (a : Answer) (m : Made) : Type 0 where
   pub prefix : MadePrefix a m
   pub no_text : Appends m.out_before m.out_after []
 
--- a fault of the output: all that an answer does that is done, and a prefix of its text
-pub record IsOutFault (a : Answer) (m : Made) : Type 0 where
-  pub done : a.status ≡ Done
+-- all that the answer does was made, and then a prefix of its text was printed
+pub record PrintsPrefix (a : Answer) (m : Made) : Type 0 where
   pub all : MadeAll a m
   pub text : AppendsPrefix m.out_before m.out_after a.text
 
--- out of memory: a prefix of what is done and a prefix of the text
-pub record IsMemory (a : Answer) (m : Made) : Type 0 where
-  pub prefix : MadePrefix a m
-  pub text : AppendsPrefix m.out_before m.out_after a.text
+-- a fault of the output: it comes while the text of an answer that is done is printed
+pub record IsOutFault (a : Answer) (m : Made) : Type 0 where
+  pub done : a.status ≡ Done
+  pub prints : PrintsPrefix a m
+
+-- out of memory: before all is made and then without text, or while the text is printed
+abbrev pub IsMemory : Answer → Made → Type 0
+IsMemory a m = IsCallFault a m ⊎ PrintsPrefix a m
 
 -- the status comes so: but for the three faults and out of memory, each is the answer's, and comes with all of it
 abbrev pub Comes : Answer → Made → Status → Type 0
@@ -121,9 +146,30 @@ Says a Done before after faults_before faults_after = Appends before after []
 Says a Memory before after faults_before faults_after = SaysPrefix a before after
 Says a status before after faults_before faults_after = SaysWhole (status_line a status) before after faults_before faults_after
 
+-- where the status alone decides the line, it is said whatever is told
+abbrev pub SaysUntold : Status → Option (List ℕ) → Option (List ℕ) → ℕ → ℕ → Type 0
+SaysUntold Done before after faults_before faults_after = Appends before after []
+SaysUntold Usage before after faults_before faults_after = SaysWhole (line_of faults.Usage) before after faults_before faults_after
+SaysUntold StoreFault before after faults_before faults_after = SaysWhole (line_of faults.StoreFailed) before after faults_before faults_after
+SaysUntold FileFault before after faults_before faults_after = SaysWhole (line_of faults.FileFailed) before after faults_before faults_after
+SaysUntold ByteFault before after faults_before faults_after = SaysWhole (line_of faults.OutputFailed) before after faults_before faults_after
+SaysUntold status before after faults_before faults_after = Unit {0}
+
 -- faults come only where a count rose, whatever is told: the keeper's and the tree's by more than the retries
 abbrev pub TopCause : ℕ → Counts → Status → Type 0
 TopCause retries counts StoreFault = RoseBy retries counts.kept_before counts.kept_after
 TopCause retries counts FileFault = RoseBy retries counts.files_before counts.files_after
 TopCause retries counts ByteFault = Rose counts.out_before counts.out_after
 TopCause retries counts status = Unit {0}
+
+-- how many failures of the keeper a status may be: out of memory comes too where the line of a fault isn't written
+abbrev pub kept_failures : Status → ℕ
+kept_failures StoreFault = 1
+kept_failures Memory = 1
+kept_failures status = 0
+
+-- how many failures of the tree it may be
+abbrev pub file_failures : Status → ℕ
+file_failures FileFault = 1
+file_failures Memory = 1
+file_failures status = 0

@@ -33,6 +33,7 @@ pub record Ending : Type 0 where
   pub status : Status
   pub text : List ℕ
 
+-- an ending by its parts
 abbrev pub ends : Status → List ℕ → Ending
 ends status text = record { status = status; text = text }
 

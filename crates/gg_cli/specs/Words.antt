@@ -17,6 +17,7 @@ use Rattle.gg_cli.specs.declared.words.Options.{Options}
 abbrev pub default_budget : ℕ
 default_budget = 65536
 
+-- the most steps that may be given
 abbrev pub max_budget : ℕ
 max_budget = 1048576
 
@@ -24,6 +25,7 @@ max_budget = 1048576
 abbrev pub default_retries : ℕ
 default_retries = 2
 
+-- the most tries again that may be given
 abbrev pub max_retries : ℕ
 max_retries = 16
 

@@ -30,7 +30,7 @@ pub(crate) enum TopFault {
 /// Why values aren't in the files that wanted them.
 #[derive(Clone, Copy, Debug, PartialEq, Eq)]
 pub(crate) enum FilingFault {
-    /// A value isn't held.
+    /// A value isn't held any more: another program has taken it away.
     Missing(Name),
     /// The keeper failed.
     StoreFailed,

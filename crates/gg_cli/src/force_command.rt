@@ -2,14 +2,18 @@
 
 ghost use Rattle.std.specs.Prelude.{◌≡◌, ◌≢◌, ◌≤◌, ℕ, All, Err};
 ghost use Rattle.thunk_codec.specs.Reference.{IsRef};
+ghost use Rattle.blob_store.specs.Keeping.{kept};
+ghost use Rattle.file_tree.specs.Files.{filed_in};
+ghost use Rattle.object_name.specs.Causes.{TriesAtMost};
 ghost use Rattle.file_tree.specs.Wanted.{IsItem, wanted_of};
 ghost use Rattle.need_eval.specs.Eval.{start};
 ghost use Rattle.need_eval.specs.Evaluation.{values_of, by_function};
+ghost use Rattle.need_eval.specs.MetObjects.{AreHeld};
 ghost use Rattle.sandbox_run.specs.Cards.{card_outcome};
 ghost use Rattle.gg_cli.specs.Answer.{wanted_forced};
 ghost use Rattle.gg_cli.specs.Comes.{around};
 ghost use Rattle.gg_cli.specs.LowerFaults.{IsFaultOf};
-ghost use Rattle.gg_cli.specs.StepContracts.{Ends, Values, HandsOut, EndCause, kept_counts};
+ghost use Rattle.gg_cli.specs.StepContracts.{Ends, Values, HandsOut, EndCause, answered, file_faults_of, kept_counts, kept_faults_of};
 
 use crate::fault::TopFault;
 use crate::value_files::write_files;
@@ -46,9 +50,10 @@ fn find_values<K: Keeper>(
     retries: u32,
 ) -> Result<Many<Name>, TopFault>
     requires { All IsRef refs }
-    ensures values { K.tells → Values (values_of (by_function card_outcome) budget refs (start (K.store keeper.old))) (K.store keeper.old) (K.store keeper.new) result }
+    ensures values { K.tells → Values (values_of (by_function card_outcome) budget refs (start (K.store keeper.old))) (kept K.store K.writes keeper.old) (kept K.store K.writes keeper.new) result }
     ensures later { K.faults keeper.old ≤ K.faults keeper.new }
     ensures cause { EndCause retries (kept_counts (K.faults keeper.old) (K.faults keeper.new)) result }
+    ensures kept_tries { K.tells → TriesAtMost retries K.calls K.faults keeper.old keeper.new (answered kept_faults_of result) }
     ensures no_usage { result ≢ Err TopFault.Usage }
 {
     match evaluate(alloc, keeper, refs, budget, retries, &mut Cards) {
@@ -67,8 +72,11 @@ fn hand_out<K: Keeper, T: Tree, O: Sink>(
     items: &[Item],
     retries: u32,
 ) -> Result<(), TopFault>
-    ensures ends { K.tells → T.tells → HandsOut names.now items.now (K.store keeper.old) (K.store keeper.new) (T.files tree.old) (T.files tree.new) (O.written out.old) (O.written out.new) result }
+    requires { K.tells → AreHeld (K.store keeper.old) names.now }
+    ensures ends { K.tells → T.tells → HandsOut names.now items.now (kept K.store K.writes keeper.old) (kept K.store K.writes keeper.new) (filed_in T.files T.changes tree.old) (filed_in T.files T.changes tree.new) (O.written out.old) (O.written out.new) result }
     ensures cause { EndCause retries (around K.faults T.faults O.faults keeper.old keeper.new tree.old tree.new out.old out.new) result }
+    ensures kept_tries { K.tells → TriesAtMost retries K.calls K.faults keeper.old keeper.new (answered kept_faults_of result) }
+    ensures file_tries { T.tells → TriesAtMost retries T.calls T.faults tree.old tree.new (answered file_faults_of result) }
     ensures kept_later { K.faults keeper.old ≤ K.faults keeper.new }
     ensures files_later { T.faults tree.old ≤ T.faults tree.new }
     ensures no_usage { result ≢ Err TopFault.Usage }
@@ -93,8 +101,10 @@ pub(crate) fn force<K: Keeper, T: Tree, O: Sink>(
 ) -> Result<(), TopFault>
     requires { All IsItem items.now }
     ensures ends { K.tells → T.tells → Ends (wanted_forced budget items.now (K.store keeper.old) (wanted_of (T.files tree.old) items.now))
-        (around K.store T.files O.written keeper.old keeper.new tree.old tree.new out.old out.new) result }
+        (around (kept K.store K.writes) (filed_in T.files T.changes) O.written keeper.old keeper.new tree.old tree.new out.old out.new) result }
     ensures cause { EndCause retries (around K.faults T.faults O.faults keeper.old keeper.new tree.old tree.new out.old out.new) result }
+    ensures kept_tries { K.tells → TriesAtMost retries K.calls K.faults keeper.old keeper.new (answered kept_faults_of result) }
+    ensures file_tries { T.tells → TriesAtMost retries T.calls T.faults tree.old tree.new (answered file_faults_of result) }
     ensures no_usage { result ≢ Err TopFault.Usage }
 {
     let refs = wanted(alloc, tree, items, retries)?;

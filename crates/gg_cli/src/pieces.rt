@@ -6,7 +6,7 @@ ghost use Rattle.gg_cli.specs.Endings.{fault_line};
 ghost use Rattle.gg_cli.specs.Pieces.{piece_text, pieces_text};
 ghost use Rattle.gg_cli.specs.Writing.{Writes};
 
-use object_name::{Bytes, Name, Sink, Trouble, write_all, write_number};
+use object_name::{Bytes, Name, SPELLING_LEN, Sink, Trouble, write_all, write_number};
 use std::alloc::Global;
 
 /// A piece of a text.
@@ -31,7 +31,7 @@ pub(crate) fn write<S: Sink>(sink: &mut S, bytes: &[u8]) -> Result<(), Trouble>
 fn write_name<S: Sink>(sink: &mut S, name: &Name) -> Result<(), Trouble>
     ensures { Writes (spelling name.now) (S.written sink.old) (S.written sink.new) (S.faults sink.old) (S.faults sink.new) result }
 {
-    let mut text = [0; 52];
+    let mut text = [0; SPELLING_LEN];
     name.spell(&mut text);
     write(sink, &text)
 }

@@ -1,10 +1,13 @@
 //! One command line, from its words to what is written.
 
 ghost use Rattle.std.specs.Prelude.{◌≡◌, ◌≢◌, ◌⊎◌, Some, None, Err, map, string_bytes};
+ghost use Rattle.blob_store.specs.Keeping.{kept};
+ghost use Rattle.file_tree.specs.Files.{filed_in};
+ghost use Rattle.object_name.specs.Causes.{TriesAtMost};
 ghost use Rattle.gg_cli.specs.Words.{command_of, retries_in, IsCommand};
 ghost use Rattle.gg_cli.specs.Answer.{answer_of, answer_of_command};
-ghost use Rattle.gg_cli.specs.Comes.{around, Comes, Says, TopCause};
-ghost use Rattle.gg_cli.specs.StepContracts.{Ends, EndCause};
+ghost use Rattle.gg_cli.specs.Comes.{around, Comes, Says, SaysUntold, TopCause, file_failures, kept_failures};
+ghost use Rattle.gg_cli.specs.StepContracts.{Ends, EndCause, answered, file_faults_of, kept_faults_of};
 
 use crate::endings::say;
 use crate::fault::TopFault;
@@ -26,8 +29,10 @@ fn do_command<K: Keeper, T: Tree, O: Sink>(
 ) -> Result<(), TopFault>
     requires { IsCommand command.now }
     ensures ends { K.tells → T.tells → Ends (answer_of_command (Some command.now) (K.store keeper.old) (T.files tree.old))
-        (around K.store T.files O.written keeper.old keeper.new tree.old tree.new out.old out.new) result }
+        (around (kept K.store K.writes) (filed_in T.files T.changes) O.written keeper.old keeper.new tree.old tree.new out.old out.new) result }
     ensures cause { EndCause (retries_in (Some command.now)) (around K.faults T.faults O.faults keeper.old keeper.new tree.old tree.new out.old out.new) result }
+    ensures kept_tries { K.tells → TriesAtMost (retries_in (Some command.now)) K.calls K.faults keeper.old keeper.new (answered kept_faults_of result) }
+    ensures file_tries { T.tells → TriesAtMost (retries_in (Some command.now)) T.calls T.faults tree.old tree.new (answered file_faults_of result) }
     ensures no_usage { result ≢ Err TopFault.Usage }
 {
     match command {
@@ -56,8 +61,10 @@ fn obey<K: Keeper, T: Tree, O: Sink>(
     out: &mut O,
 ) -> Result<(), TopFault>
     ensures ends { K.tells → T.tells → Ends (answer_of (map string_bytes words.now) (K.store keeper.old) (T.files tree.old))
-        (around K.store T.files O.written keeper.old keeper.new tree.old tree.new out.old out.new) result }
+        (around (kept K.store K.writes) (filed_in T.files T.changes) O.written keeper.old keeper.new tree.old tree.new out.old out.new) result }
     ensures cause { EndCause (retries_in (command_of (map string_bytes words.now))) (around K.faults T.faults O.faults keeper.old keeper.new tree.old tree.new out.old out.new) result }
+    ensures kept_tries { K.tells → TriesAtMost (retries_in (command_of (map string_bytes words.now))) K.calls K.faults keeper.old keeper.new (answered kept_faults_of result) }
+    ensures file_tries { T.tells → TriesAtMost (retries_in (command_of (map string_bytes words.now))) T.calls T.faults tree.old tree.new (answered file_faults_of result) }
     ensures usage { result ≡ Err TopFault.Usage → command_of (map string_bytes words.now) ≡ None }
     ensures no_command { command_of (map string_bytes words.now) ≡ None → (result ≡ Err TopFault.Usage) ⊎ (result ≡ Err TopFault.Memory) }
 {
@@ -79,12 +86,18 @@ pub fn gg_top<K: Keeper, T: Tree, O: Sink, E: Sink>(
     err: &mut E,
 ) -> Status
     // Where the keeper and the tree tell, all is as the answer by the definition has it, or a fault stopped it after a prefix.
+    // Each write and each change is made once, in order: the lists of those that were answered Ok grow by the answer's.
     ensures exact { K.tells → T.tells → Comes (answer_of (map string_bytes words.now) (K.store keeper.old) (T.files tree.old))
-        (around K.store T.files O.written keeper.old keeper.new tree.old tree.new out.old out.new) result }
+        (around (kept K.store K.writes) (filed_in T.files T.changes) O.written keeper.old keeper.new tree.old tree.new out.old out.new) result }
     ensures said { K.tells → T.tells → Says (answer_of (map string_bytes words.now) (K.store keeper.old) (T.files tree.old)) result
         (E.written err.old) (E.written err.new) (E.faults err.old) (E.faults err.new) }
+    // The line that a status alone decides is said whatever is told.
+    ensures line { SaysUntold result (E.written err.old) (E.written err.new) (E.faults err.old) (E.faults err.new) }
     // A fault comes only where a count rose, by more than the retries where calls are tried again, whatever is told.
     ensures cause { TopCause (retries_in (command_of (map string_bytes words.now))) (around K.faults T.faults O.faults keeper.old keeper.new tree.old tree.new out.old out.new) result }
+    // Of the calls of the keeper and of the tree no more failed than the retries of the words allow.
+    ensures kept_tries { K.tells → TriesAtMost (retries_in (command_of (map string_bytes words.now))) K.calls K.faults keeper.old keeper.new (kept_failures result) }
+    ensures file_tries { T.tells → TriesAtMost (retries_in (command_of (map string_bytes words.now))) T.calls T.faults tree.old tree.new (file_failures result) }
     // Words that are no command line, and no others, are a usage fault, unless memory runs out.
     ensures usage { result ≡ Status.Usage → command_of (map string_bytes words.now) ≡ None }
     ensures no_command { command_of (map string_bytes words.now) ≡ None → (result ≡ Status.Usage) ⊎ (result ≡ Status.Memory) }

@@ -1,9 +1,13 @@
 //! Values that go to the files that wanted them.
 
-ghost use Rattle.std.specs.Prelude.{◌≡◌, ◌≤◌, ℕ};
+ghost use Rattle.std.specs.Prelude.{◌≡◌, ◌≤◌, ◌∷◌, [], ℕ, IsSome};
 ghost use Rattle.blob_store.specs.Store.{held};
-ghost use Rattle.gg_cli.specs.ValueFiles.{nothing_filed, one_filed, file_then, item_filed, filed};
-ghost use Rattle.gg_cli.specs.StepContracts.{FilesValues, FilingCause};
+ghost use Rattle.file_tree.specs.Files.{filed_in};
+ghost use Rattle.object_name.specs.Causes.{TriesAtMost};
+ghost use Rattle.file_tree.specs.declared.change.Change.TheVariants.{Written};
+ghost use Rattle.need_eval.specs.MetObjects.{AreHeld};
+ghost use Rattle.gg_cli.specs.ValueFiles.{value_bytes, item_filed, filed};
+ghost use Rattle.gg_cli.specs.StepContracts.{FilesValues, FilingCause, answered, file_faults_filing, kept_faults_filing};
 
 use crate::fault::FilingFault;
 use blob_store::{Keeper, fetch};
@@ -19,9 +23,10 @@ fn write_bytes<T: Tree>(
     bytes: &[u8],
     retries: u32,
 ) -> Result<(), FilingFault>
-    ensures filed { T.tells → FilesValues (one_filed path.now bytes.now) (T.files tree.old) (T.files tree.new) result }
+    ensures filed { T.tells → FilesValues (Written path.now bytes.now ∷ []) (filed_in T.files T.changes tree.old) (filed_in T.files T.changes tree.new) result }
     ensures later { T.faults tree.old ≤ T.faults tree.new }
     ensures cause { (kept : ℕ) → FilingCause retries kept kept (T.faults tree.old) (T.faults tree.new) result }
+    ensures file_tries { T.tells → TriesAtMost retries T.calls T.faults tree.old tree.new (answered file_faults_filing result) }
 {
     match write_again(tree, path, bytes, retries) {
         Ok(()) => Ok(()),
@@ -39,11 +44,15 @@ fn write_value<K: Keeper, T: Tree>(
     path: &Path,
     retries: u32,
 ) -> Result<(), FilingFault>
-    ensures filed { K.tells → T.tells → FilesValues (file_then path.now name.now (held (K.store keeper.old).objects name.now) nothing_filed) (T.files tree.old) (T.files tree.new) result }
+    requires { K.tells → IsSome (held (K.store keeper.old).objects name.now) }
+    ensures filed { K.tells → T.tells → FilesValues (Written path.now (value_bytes (K.store keeper.old).objects name.now) ∷ []) (filed_in T.files T.changes tree.old) (filed_in T.files T.changes tree.new) result }
     ensures same { K.tells → K.store keeper.new ≡ K.store keeper.old }
+    ensures list { K.tells → K.writes keeper.new ≡ K.writes keeper.old }
     ensures kept_later { K.faults keeper.old ≤ K.faults keeper.new }
     ensures files_later { T.faults tree.old ≤ T.faults tree.new }
     ensures cause { FilingCause retries (K.faults keeper.old) (K.faults keeper.new) (T.faults tree.old) (T.faults tree.new) result }
+    ensures kept_tries { K.tells → TriesAtMost retries K.calls K.faults keeper.old keeper.new (answered kept_faults_filing result) }
+    ensures file_tries { T.tells → TriesAtMost retries T.calls T.faults tree.old tree.new (answered file_faults_filing result) }
 {
     match fetch(alloc, keeper, name, retries) {
         Ok(Some(bytes)) => write_bytes(tree, path, bytes.as_slice(), retries),
@@ -62,11 +71,15 @@ fn write_item<K: Keeper, T: Tree>(
     item: &Item,
     retries: u32,
 ) -> Result<(), FilingFault>
-    ensures filed { K.tells → T.tells → FilesValues (item_filed (K.store keeper.old).objects name.now item.now nothing_filed) (T.files tree.old) (T.files tree.new) result }
+    requires { K.tells → IsSome (held (K.store keeper.old).objects name.now) }
+    ensures filed { K.tells → T.tells → FilesValues (item_filed (K.store keeper.old).objects name.now item.now) (filed_in T.files T.changes tree.old) (filed_in T.files T.changes tree.new) result }
     ensures same { K.tells → K.store keeper.new ≡ K.store keeper.old }
+    ensures list { K.tells → K.writes keeper.new ≡ K.writes keeper.old }
     ensures kept_later { K.faults keeper.old ≤ K.faults keeper.new }
     ensures files_later { T.faults tree.old ≤ T.faults tree.new }
     ensures cause { FilingCause retries (K.faults keeper.old) (K.faults keeper.new) (T.faults tree.old) (T.faults tree.new) result }
+    ensures kept_tries { K.tells → TriesAtMost retries K.calls K.faults keeper.old keeper.new (answered kept_faults_filing result) }
+    ensures file_tries { T.tells → TriesAtMost retries T.calls T.faults tree.old tree.new (answered file_faults_filing result) }
 {
     match item {
         Item::Bare(_) => Ok(()),
@@ -84,11 +97,15 @@ pub(crate) fn write_files<K: Keeper, T: Tree>(
     items: &[Item],
     retries: u32,
 ) -> Result<(), FilingFault>
-    ensures filed { K.tells → T.tells → FilesValues (filed (K.store keeper.old).objects names.now items.now) (T.files tree.old) (T.files tree.new) result }
+    requires { K.tells → AreHeld (K.store keeper.old) names.now }
+    ensures filed { K.tells → T.tells → FilesValues (filed (K.store keeper.old).objects names.now items.now) (filed_in T.files T.changes tree.old) (filed_in T.files T.changes tree.new) result }
     ensures same { K.tells → K.store keeper.new ≡ K.store keeper.old }
+    ensures list { K.tells → K.writes keeper.new ≡ K.writes keeper.old }
     ensures kept_later { K.faults keeper.old ≤ K.faults keeper.new }
     ensures files_later { T.faults tree.old ≤ T.faults tree.new }
     ensures cause { FilingCause retries (K.faults keeper.old) (K.faults keeper.new) (T.faults tree.old) (T.faults tree.new) result }
+    ensures kept_tries { K.tells → TriesAtMost retries K.calls K.faults keeper.old keeper.new (answered kept_faults_filing result) }
+    ensures file_tries { T.tells → TriesAtMost retries T.calls T.faults tree.old tree.new (answered file_faults_filing result) }
 {
     'values: for (name, item) in names.iter().zip(items) {
         write_item(alloc, keeper, tree, name, item, retries)?;

@@ -7,7 +7,7 @@ ghost use Rattle.gg_cli.specs.Writing.{Writes};
 
 use crate::pieces::write;
 use file_tree::Item;
-use object_name::{Bytes, Name, Sink, Trouble};
+use object_name::{Bytes, Name, SPELLING_LEN, Sink, Trouble};
 use std::alloc::{AllocError, Global};
 
 /// Appends the spelling of an item.
@@ -29,7 +29,7 @@ fn print_value<S: Sink>(
 ) -> Result<(), Trouble>
     ensures { Writes (value_line name.now item.now) (S.written sink.old) (S.written sink.new) (S.faults sink.old) (S.faults sink.new) result }
 {
-    let mut spelling = [0; 52];
+    let mut spelling = [0; SPELLING_LEN];
     name.spell(&mut spelling);
     let mut line = Bytes::new(alloc);
     line.append(&spelling)?;
