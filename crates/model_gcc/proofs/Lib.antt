@@ -1,0 +1,2 @@
+pub mod BytesAreCounted
+pub mod RefusalsStay
