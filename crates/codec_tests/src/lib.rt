@@ -1,12 +1,6 @@
-//! Tests of names, lines, paths, thunks and placeholders, by public calls.
+//! Tests of names, paths, thunks and placeholders, by public calls that no program makes.
 #![tactic(auto)]
 
-#[cfg(test)]
-mod folders_and_placeholders;
-#[cfg(test)]
-mod lines_and_words;
-#[cfg(test)]
-mod made_thunks;
 #[cfg(test)]
 mod names;
 #[cfg(test)]

@@ -1,10 +1,13 @@
 //! Folders for tests, under the system's folder for temporary files.
 
-use object_name::{Bytes, SPELLING_LEN, name_of};
+use object_name::{SPELLING_LEN, name_of};
 use std::alloc::Global;
 use std::test::Fail;
 use std::{env, io, process};
 use thunk_codec::Path;
+
+/// The number of the process for which keepers and trees write. The first name beside others that it has is `·7.0`.
+pub const PROCESS: u32 = 7;
 
 /// A folder for one test.
 pub fn test_folder(rt: &HostRuntime, test: &str) -> io::Result<String> {
@@ -17,11 +20,6 @@ pub fn test_folder(rt: &HostRuntime, test: &str) -> io::Result<String> {
 /// A path of a tree.
 pub fn path(alloc: Global, text: &[u8]) -> Result<Path, Fail> {
     Ok(Path::read(alloc, text)?.ok_or("there is a path")?)
-}
-
-/// Some bytes.
-pub fn some(alloc: Global, bytes: &[u8]) -> Result<Option<Bytes>, Fail> {
-    Ok(Some(Bytes::from_slice(alloc, bytes)?))
 }
 
 /// The path of the file of the object `abc` in the folder of a keeper.

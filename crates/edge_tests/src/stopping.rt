@@ -2,7 +2,7 @@
 
 use std::alloc::Allocator;
 use std::cell::Cell;
-use std::fs::{File, Metadata, OpenFile, OpenOptions};
+use std::fs::{File, Metadata, OpenFile, OpenOptions, Permissions};
 use std::io;
 use std::io::{ErrorKind, Read, Seek, SeekFrom, Write};
 use std::rt::Files;
@@ -10,9 +10,9 @@ use std::rt::Files;
 /// The calls on files, numbered from 1, of which those from `first` to `last` fail.
 #[derive(Drop)]
 pub struct Calls {
-    pub count: Cell<u64>,
-    pub first: u64,
-    pub last: u64,
+    count: Cell<u64>,
+    first: u64,
+    last: u64,
 }
 
 impl Calls {
@@ -94,6 +94,11 @@ impl OpenFile for StoppingFile<'_> {
     fn sync_data(&self) -> io::Result<()> {
         self.calls.begin()?;
         self.file.sync_data()
+    }
+
+    fn set_permissions(&self, permissions: Permissions) -> io::Result<()> {
+        self.calls.begin()?;
+        self.file.set_permissions(permissions)
     }
 }
 

@@ -5,7 +5,7 @@ ghost use Rattle.thunk_codec.specs.Reference.{IsRef};
 
 use crate::content::{Content, copied};
 use crate::joining::Joins;
-use crate::plain::Plain;
+use crate::plain::{Plain, PlainFault};
 use crate::scenes::{Dice, Scene, spoiled_notes, spoiled_objects};
 use crate::texts::first_outputs;
 use blob_store::MemKeeper;
@@ -27,23 +27,26 @@ const AMPLE: u32 = 1000;
 /// All kinds of answers but those that the family can't show.
 const ALL_KINDS: u32 = 63;
 
+/// What an evaluation answered: the values and the number of steps, or why there are none.
+type Answer = Result<(Many<Name>, u32), PlainFault>;
+
 /// What an evaluation answered and wrote, and what is kept then.
 #[derive(Drop)]
 struct Seen {
-    answer: Result<Values, EvalFault>,
+    answer: Answer,
     puts: Vec<Name>,
     content: Content,
 }
 
 /// The kind of an answer, as a power of two.
-fn kind_of(answer: &Result<Values, EvalFault>) -> u32 {
+fn kind_of(answer: &Answer) -> u32 {
     match answer {
         Ok(_) => 1,
-        Err(EvalFault::Refused(Refusal::Missing(_))) => 2,
-        Err(EvalFault::Refused(Refusal::BadThunk(_))) => 4,
-        Err(EvalFault::Refused(Refusal::NoOutput { .. })) => 8,
-        Err(EvalFault::Refused(Refusal::Spent { .. })) => 16,
-        Err(EvalFault::Refused(Refusal::FunctionFailed { .. })) => 32,
+        Err(PlainFault::Refused(Refusal::Missing(_))) => 2,
+        Err(PlainFault::Refused(Refusal::BadThunk(_))) => 4,
+        Err(PlainFault::Refused(Refusal::NoOutput { .. })) => 8,
+        Err(PlainFault::Refused(Refusal::Spent { .. })) => 16,
+        Err(PlainFault::Refused(Refusal::FunctionFailed { .. })) => 32,
         Err(_) => 64,
     }
 }
@@ -60,23 +63,35 @@ fn evaluated(
     evaluate(alloc, keeper, refs, budget, 0, &mut Joins)
 }
 
+/// The fault of `evaluate`, as the plain program would give it.
+fn fault_of(fault: &EvalFault) -> PlainFault {
+    match fault {
+        EvalFault::Refused(refusal) => PlainFault::Refused(*refusal),
+        _ => PlainFault::Memory,
+    }
+}
+
+/// An answer of `evaluate`, as the plain program would give it.
+fn answer_of(evaluated: Result<Values, EvalFault>) -> Answer {
+    match evaluated {
+        Ok(values) => Ok((values.names, values.steps)),
+        Err(fault) => Err(fault_of(&fault)),
+    }
+}
+
 /// What `evaluate` does with the first outputs of some thunks.
 fn walked(alloc: Global, content: &Content, names: &[Name], budget: u32) -> Result<Seen, Fail> {
     let objects = Many(copied(alloc, content.objects.as_slice())?);
     let notes = Many(copied(alloc, content.notes.as_slice())?);
     let mut keeper = MemKeeper::new(alloc, objects, notes, Many::new(alloc))?;
     let refs = first_outputs(alloc, names)?;
-    let answer = evaluated(alloc, &mut keeper, refs, budget);
+    let answer = answer_of(evaluated(alloc, &mut keeper, refs, budget));
     observed(alloc, answer, keeper)
 }
 
 /// What a keeper shows after an evaluation.
-fn observed(
-    alloc: Global,
-    answer: Result<Values, EvalFault>,
-    keeper: MemKeeper,
-) -> Result<Seen, Fail> {
-    let puts = keeper.puts().to_vec(alloc)?;
+fn observed(alloc: Global, answer: Answer, keeper: MemKeeper) -> Result<Seen, Fail> {
+    let Many(puts) = keeper.puts(alloc)?;
     let (objects, notes) = keeper.into_content();
     let content = Content {
         objects: objects.0,
@@ -111,7 +126,7 @@ fn plainly(alloc: Global, content: &Content, names: &[Name], budget: u32) -> Res
         ..
     } = plain;
     let answer = match found {
-        Ok(names) => Ok(Values { names, steps }),
+        Ok(names) => Ok((names, steps)),
         Err(fault) => Err(fault),
     };
     Ok(Seen {
@@ -122,10 +137,10 @@ fn plainly(alloc: Global, content: &Content, names: &[Name], budget: u32) -> Res
 }
 
 /// Whether two answers are the same values after the same steps, or the same refusal.
-fn is_same(one: &Result<Values, EvalFault>, other: &Result<Values, EvalFault>) -> bool {
+fn is_same(one: &Answer, other: &Answer) -> bool {
     match (one, other) {
-        (Ok(one), Ok(other)) => one.steps == other.steps && one.names == other.names,
-        (Err(EvalFault::Refused(one)), Err(EvalFault::Refused(other))) => *one == *other,
+        (Ok(one), Ok(other)) => one.1 == other.1 && one.0 == other.0,
+        (Err(PlainFault::Refused(one)), Err(PlainFault::Refused(other))) => *one == *other,
         _ => false,
     }
 }

@@ -1,4 +1,4 @@
-//! Tests of evaluation: a walker beside a plain program that calls itself, and the calls of a walker one by one.
+//! Tests of evaluation: a walker beside a plain program that calls itself.
 #![tactic(auto)]
 
 #[cfg(test)]
@@ -10,8 +10,10 @@ mod joining;
 #[cfg(test)]
 mod plain;
 #[cfg(test)]
+mod preparing;
+#[cfg(test)]
 mod scenes;
 #[cfg(test)]
 mod texts;
 #[cfg(test)]
-mod walking;
+mod told;

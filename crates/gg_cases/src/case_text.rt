@@ -47,28 +47,55 @@ impl<'a> CaseText<'a> {
             number = number.saturating_add(1);
             if in_prose {
                 in_prose = line != "\n";
+            } else if let Some(head) = head_of(line) {
+                cut.begin_section(alloc, number, head)?;
             } else {
-                cut.add(alloc, number, line)?;
+                cut.add(number, line)?;
             }
         }
         Ok(cut)
     }
 
-    /// Adds a line to the part that it belongs to.
-    fn add(&mut self, alloc: Global, number: usize, line: &'a str) -> Result<(), AllocError> {
-        if let Some(head) = head_of(line) {
-            let lines = Vec::new(alloc);
-            self.sections.push(SectionText {
-                number,
-                head,
-                lines,
-            })?;
-        } else if let Some(section) = self.sections.last_mut() {
-            section.lines.push(line)?;
-        } else {
-            let text = without_feed(line);
-            self.commands.push(Line { number, text })?;
-        }
+    /// Begins a section.
+    fn begin_section(
+        &mut self,
+        alloc: Global,
+        number: usize,
+        head: &'a str,
+    ) -> Result<(), AllocError> {
+        let lines = Vec::new(alloc);
+        self.sections.push(SectionText {
+            number,
+            head,
+            lines,
+        })?;
         Ok(())
     }
+
+    /// Adds a line to the last section or, where there is none, to the commands.
+    fn add(&mut self, number: usize, line: &'a str) -> Result<(), AllocError> {
+        if self.sections.is_empty() {
+            return add_command(&mut self.commands, number, line);
+        }
+        add_to_last(&mut self.sections, line)
+    }
+}
+
+/// Adds a line of the commands.
+fn add_command<'a>(
+    commands: &mut Vec<Line<'a>>,
+    number: usize,
+    line: &'a str,
+) -> Result<(), AllocError> {
+    let text = without_feed(line);
+    commands.push(Line { number, text })?;
+    Ok(())
+}
+
+/// Adds a line to the last of some sections.
+fn add_to_last<'a>(sections: &mut Vec<SectionText<'a>>, line: &'a str) -> Result<(), AllocError> {
+    if let Some(section) = sections.last_mut() {
+        section.lines.push(line)?;
+    }
+    Ok(())
 }

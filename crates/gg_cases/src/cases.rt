@@ -65,24 +65,46 @@ impl<'a> Case<'a> {
     }
 }
 
+/// Cases that were read, and the one that is being read.
+#[derive(Drop)]
+struct Reading<'a> {
+    cases: Vec<Case<'a>>,
+    case: Case<'a>,
+}
+
+impl<'a> Reading<'a> {
+    /// Takes a line: it begins a case, or belongs to the one that is being read.
+    fn take(&mut self, alloc: Global, line: Line<'a>) -> Result<(), Wrong> {
+        let Some(name) = line.text.strip_prefix("case ") else {
+            return self.case.add(alloc, line);
+        };
+        let done = std::mem::replace(&mut self.case, Case::new(alloc, name));
+        push_case(&mut self.cases, done)?;
+        Ok(())
+    }
+
+    /// All cases.
+    fn into_cases(self) -> Result<Vec<Case<'a>>, AllocError> {
+        let Reading { mut cases, case } = self;
+        push_case(&mut cases, case)?;
+        Ok(cases)
+    }
+}
+
 /// The cases of some lines. The lines before the first `case` line are a case of the file's name.
 pub fn cases_of<'a>(
     alloc: Global,
     name: &'a str,
     lines: &[Line<'a>],
 ) -> Result<Vec<Case<'a>>, Wrong> {
-    let mut cases = Vec::new(alloc);
-    let mut case = Case::new(alloc, name);
+    let mut reading = Reading {
+        cases: Vec::new(alloc),
+        case: Case::new(alloc, name),
+    };
     for line in lines {
-        if let Some(name) = line.text.strip_prefix("case ") {
-            let done = std::mem::replace(&mut case, Case::new(alloc, name));
-            push_case(&mut cases, done)?;
-        } else {
-            case.add(alloc, *line)?;
-        }
+        reading.take(alloc, *line)?;
     }
-    push_case(&mut cases, case)?;
-    Ok(cases)
+    Ok(reading.into_cases()?)
 }
 
 /// Appends a case that has steps.

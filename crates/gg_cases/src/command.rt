@@ -6,8 +6,9 @@ use crate::scene::Scene;
 use blob_store::MemKeeper;
 use file_tree::MemTree;
 use gg_cli::gg_top;
-use object_name::{Bytes, Many, MemSink};
+use object_name::{Bytes, Many, MemSink, Name};
 use std::alloc::{AllocError, Global};
+use thunk_codec::Path;
 
 /// What a command line printed, wrote and left.
 #[derive(Drop)]
@@ -20,6 +21,100 @@ pub struct Ran {
     pub left: Scene,
 }
 
+/// What a command line works over.
+#[derive(Drop)]
+struct Edge {
+    keeper: Recorder,
+    tree: MemTree,
+    out: MemSink,
+    err: MemSink,
+}
+
+/// A keeper of some objects and notes that records its writes.
+fn keeper_of(
+    alloc: Global,
+    objects: Many<(Name, Bytes)>,
+    notes: Many<(Name, Bytes)>,
+    failing: Many<u64>,
+) -> Result<Recorder, AllocError> {
+    let keeper = MemKeeper::new(alloc, objects, notes, failing)?;
+    Ok(Recorder::new(alloc, keeper))
+}
+
+/// A tree of some files.
+fn tree_of(
+    alloc: Global,
+    files: Many<(Path, Bytes)>,
+    failing: Many<u64>,
+) -> Result<MemTree, AllocError> {
+    MemTree::new(alloc, files, failing)
+}
+
+/// A sink that has taken nothing.
+fn sink_of(alloc: Global, failing: Many<u64>) -> Result<MemSink, AllocError> {
+    MemSink::new(alloc, failing)
+}
+
+impl Edge {
+    fn new(alloc: Global, scene: Scene, failing: Failing) -> Result<Self, AllocError> {
+        let keeper = keeper_of(alloc, scene.objects, scene.notes, failing.store)?;
+        let tree = tree_of(alloc, scene.files, failing.files)?;
+        let out = sink_of(alloc, failing.output)?;
+        let err = sink_of(alloc, Many::new(alloc))?;
+        Ok(Edge {
+            keeper,
+            tree,
+            out,
+            err,
+        })
+    }
+
+    /// Runs a command line, and gives its exit status.
+    fn status_of(&mut self, alloc: Global, words: &[String]) -> u8 {
+        let status = gg_top(
+            alloc,
+            words,
+            &mut self.keeper,
+            &mut self.tree,
+            &mut self.out,
+            &mut self.err,
+        );
+        status.code()
+    }
+
+    fn calls(&self) -> Counts {
+        Counts {
+            store: self.keeper.calls(),
+            files: self.tree.calls(),
+            output: self.out.calls(),
+        }
+    }
+
+    fn into_ran(self, status: u8) -> Result<Ran, AllocError> {
+        let calls = self.calls();
+        let Edge {
+            keeper,
+            tree,
+            out,
+            err,
+        } = self;
+        let files = tree.into_content()?;
+        let (objects, notes, writes) = keeper.into_recorded();
+        Ok(Ran {
+            status,
+            out: out.into_content(),
+            err: err.into_content(),
+            writes,
+            calls,
+            left: Scene {
+                objects,
+                notes,
+                files,
+            },
+        })
+    }
+}
+
 /// Runs a command line.
 pub fn run(
     alloc: Global,
@@ -27,31 +122,18 @@ pub fn run(
     scene: Scene,
     failing: Failing,
 ) -> Result<Ran, AllocError> {
-    let keeper = MemKeeper::new(alloc, scene.objects, scene.notes, failing.store)?;
-    let mut keeper = Recorder::new(alloc, keeper);
-    let mut tree = MemTree::new(alloc, scene.files, failing.files)?;
-    let mut out = MemSink::new(alloc, failing.output)?;
-    let mut err = MemSink::new(alloc, Many::new(alloc))?;
-    let status = gg_top(alloc, words, &mut keeper, &mut tree, &mut out, &mut err);
-    let recorded = keeper.into_recorded();
-    let calls = Counts {
-        store: recorded.calls,
-        files: tree.calls(),
-        output: out.calls(),
-    };
-    let left = Scene {
-        objects: recorded.objects,
-        notes: recorded.notes,
-        files: tree.into_content()?,
-    };
-    Ok(Ran {
-        status: status.code(),
-        out: out.into_content(),
-        err: err.into_content(),
-        writes: recorded.writes,
-        calls,
-        left,
-    })
+    let mut edge = Edge::new(alloc, scene, failing)?;
+    let status = edge.status_of(alloc, words);
+    edge.into_ran(status)
+}
+
+/// A printed line behind a mark.
+fn shown(alloc: Global, mark: char, line: &[u8]) -> Result<String, AllocError> {
+    let mut shown = String::new(alloc);
+    shown.push(mark)?;
+    shown.push(' ')?;
+    push_bytes(&mut shown, line)?;
+    Ok(shown)
 }
 
 /// Adds a line for each line of some printed bytes, behind a mark.
@@ -62,11 +144,7 @@ fn add_lines(
     text: &[u8],
 ) -> Result<(), AllocError> {
     for line in text.split_inclusive(|byte| *byte == b'\n') {
-        let mut shown = String::new(alloc);
-        shown.push(mark)?;
-        shown.push(' ')?;
-        push_bytes(&mut shown, line)?;
-        lines.push(shown)?;
+        lines.push(shown(alloc, mark, line)?)?;
     }
     Ok(())
 }
@@ -88,11 +166,23 @@ impl Ran {
     pub fn transcript(&self, alloc: Global) -> Result<Vec<String>, AllocError> {
         let mut lines = Vec::new(alloc);
         add_lines(alloc, &mut lines, '>', self.out.as_slice())?;
-        add_lines(alloc, &mut lines, '!', self.err.as_slice())?;
+        self.add_faults(alloc, &mut lines)?;
+        Ok(lines)
+    }
+
+    /// What it said on standard error, and how it ended.
+    pub fn faults(&self, alloc: Global) -> Result<Vec<String>, AllocError> {
+        let mut lines = Vec::new(alloc);
+        self.add_faults(alloc, &mut lines)?;
+        Ok(lines)
+    }
+
+    fn add_faults(&self, alloc: Global, lines: &mut Vec<String>) -> Result<(), AllocError> {
+        add_lines(alloc, lines, '!', self.err.as_slice())?;
         if self.status != 0 {
             let status = self.status;
             lines.push(format!(in alloc; "= {status}")?)?;
         }
-        Ok(lines)
+        Ok(())
     }
 }

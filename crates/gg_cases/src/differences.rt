@@ -14,7 +14,7 @@ const SHOWN: usize = 2_000;
 
 /// Whether a byte is shown as it is.
 fn is_plain(byte: u8) -> bool {
-    matches!(byte, b' '..=b'~') && byte != b'\\'
+    byte >= b' ' && byte <= b'~' && byte != b'\\'
 }
 
 /// Appends a byte as it is shown.
@@ -99,14 +99,72 @@ fn add_line(
 
 /// How many lines are the same in both texts, from the first on.
 fn common(expected: &[String], got: &[String]) -> usize {
-    expected
-        .iter()
-        .zip(got)
-        .take_while(|(expected, got)| expected == got)
-        .count()
+    let mut same = 0usize;
+    for (expected, got) in expected.iter().zip(got) {
+        if expected != got {
+            return same;
+        }
+        same = same.saturating_add(1);
+    }
+    same
 }
 
-/// Some lines must be others. What the differing ones name is shown from the sections and from what was left.
+/// The bytes that a printed line names, from the sections.
+fn known_to<'a>(sections: &'a Sections, line: &str) -> Option<&'a Bytes> {
+    let name = printed_name(line)?;
+    sections.named(&name)
+}
+
+/// The bytes that a printed line names, from what was left.
+fn left_in<'a>(left: &'a Scene, line: &str) -> Option<&'a Bytes> {
+    let name = printed_name(line)?;
+    left.object(&name)
+}
+
+/// Adds lines that must be there and aren't, from one on.
+fn add_expected(
+    alloc: Global,
+    lines: &mut Vec<String>,
+    first: usize,
+    expected: &[String],
+    sections: &Sections,
+) -> Result<(), AllocError> {
+    for line in expected.iter().skip(first) {
+        add_line(alloc, lines, "- ", line, known_to(sections, line))?;
+    }
+    Ok(())
+}
+
+/// Adds lines that are there and mustn't be, from one on.
+fn add_got(
+    alloc: Global,
+    lines: &mut Vec<String>,
+    first: usize,
+    got: &[String],
+    left: &Scene,
+) -> Result<(), AllocError> {
+    for line in got.iter().skip(first) {
+        add_line(alloc, lines, "+ ", line, left_in(left, line))?;
+    }
+    Ok(())
+}
+
+/// The lines that differ. What they name is shown from the sections and from what was left.
+fn differing(
+    alloc: Global,
+    expected: &[String],
+    got: &[String],
+    sections: &Sections,
+    left: &Scene,
+) -> Result<Vec<String>, AllocError> {
+    let same = common(expected, got);
+    let mut lines = Vec::new(alloc);
+    add_expected(alloc, &mut lines, same, expected, sections)?;
+    add_got(alloc, &mut lines, same, got, left)?;
+    Ok(lines)
+}
+
+/// Some lines must be others.
 pub fn expect_lines(
     alloc: Global,
     number: usize,
@@ -115,23 +173,11 @@ pub fn expect_lines(
     sections: &Sections,
     left: &Scene,
 ) -> Result<(), Wrong> {
-    let same = common(expected, got);
-    let mut lines = Vec::new(alloc);
-    for line in expected.iter().skip(same) {
-        let known = printed_name(line).and_then(|name| sections.named(&name));
-        add_line(alloc, &mut lines, "- ", line, known)?;
-    }
-    for line in got.iter().skip(same) {
-        let known = printed_name(line).and_then(|name| left.object(&name));
-        add_line(alloc, &mut lines, "+ ", line, known)?;
-    }
-    if lines.is_empty() {
+    let shown = differing(alloc, expected, got, sections, left)?;
+    if shown.is_empty() {
         return Ok(());
     }
-    Err(Wrong::Differs {
-        number,
-        shown: lines,
-    })
+    Err(Wrong::Differs { number, shown })
 }
 
 /// Some writes, as a case says them.

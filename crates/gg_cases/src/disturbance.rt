@@ -90,9 +90,9 @@ pub fn disturb(
             disturbance,
             first,
         };
-        disturbed
-            .compare()
-            .map_err(|wrong| with_call(alloc, wrong, disturbance.part, first))?;
+        if let Err(wrong) = disturbed.compare() {
+            return Err(with_call(alloc, wrong, disturbance.part, first));
+        }
     }
     Ok(())
 }
@@ -122,6 +122,17 @@ fn in_front(
         all.push(line)?;
     }
     Ok(all)
+}
+
+/// How many writes were made before a call.
+fn before_call(writes: &[Write], call: u64) -> usize {
+    let mut number = 0usize;
+    for write in writes {
+        if write.call < call {
+            number = number.saturating_add(1);
+        }
+    }
+    number
 }
 
 /// The last command again, where calls from one on fail.
@@ -164,14 +175,8 @@ impl Disturbed<'_> {
 
     /// The fault's answer comes, after the last of the failing calls.
     fn ends(&self, ran: &Ran) -> Result<(), Wrong> {
-        let (line, status) = self.disturbance.ending();
-        let mut expected = Vec::new(self.alloc);
-        expected.push(String::from_str(self.alloc, line)?)?;
-        expected.push(String::from_str(self.alloc, status)?)?;
-        let mut got = ran.transcript(self.alloc)?;
-        if self.printed_a_prefix(ran) {
-            got.retain(|line| !line.starts_with('>'));
-        }
+        let expected = self.ending()?;
+        let got = self.printed(ran)?;
         expect_lines(
             self.alloc,
             self.number,
@@ -185,6 +190,23 @@ impl Disturbed<'_> {
             .saturating_add(self.disturbance.times)
             .saturating_sub(1);
         self.made_calls(ran, self.disturbance.part, calls)
+    }
+
+    /// What a command that the fault ends must print.
+    fn ending(&self) -> Result<Vec<String>, AllocError> {
+        let (line, status) = self.disturbance.ending();
+        let mut lines = Vec::new(self.alloc);
+        lines.push(String::from_str(self.alloc, line)?)?;
+        lines.push(String::from_str(self.alloc, status)?)?;
+        Ok(lines)
+    }
+
+    /// What was printed, but for a prefix of the undisturbed text that a failing output has taken.
+    fn printed(&self, ran: &Ran) -> Result<Vec<String>, AllocError> {
+        if self.printed_a_prefix(ran) {
+            return ran.faults(self.alloc);
+        }
+        ran.transcript(self.alloc)
     }
 
     /// Whether a failing output has taken a prefix of the undisturbed text.
@@ -248,7 +270,7 @@ impl Disturbed<'_> {
     fn writes_before(&self, ran: &Ran) -> usize {
         let all = self.last.ran.writes.as_slice();
         match self.disturbance.part {
-            Part::Store => all.iter().filter(|write| write.call < self.first).count(),
+            Part::Store => before_call(all, self.first),
             Part::Files | Part::Output => ran.writes.len(),
         }
     }

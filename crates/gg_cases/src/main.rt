@@ -24,19 +24,32 @@ use std::{env, fs};
 /// The file that names the case files of a folder, one a line.
 const INDEX: &str = "index";
 
-/// The paths of the case files: the program's words or, where there are none, the lines of the index.
-fn paths<R: Files + Env + AllocGlobal>(rt: &R) -> Result<Vec<String>> {
-    let mut paths = Vec::new(rt.alloc());
+/// The program's words.
+fn words<R: Env + AllocGlobal>(rt: &R) -> Result<Vec<String>> {
+    let mut words = Vec::new(rt.alloc());
     for word in env::args(rt)?.skip(1) {
-        paths.push(word)?;
+        words.push(word)?;
     }
-    if paths.is_empty() {
-        let index = fs::read_to_string(rt, INDEX).context("reading the index")?;
-        for line in index.lines() {
-            paths.push(String::from_str(rt.alloc(), line)?)?;
-        }
+    Ok(words)
+}
+
+/// The lines of the index.
+fn indexed<R: Files + AllocGlobal>(rt: &R) -> Result<Vec<String>> {
+    let mut paths = Vec::new(rt.alloc());
+    let index = fs::read_to_string(rt, INDEX).context("reading the index")?;
+    for line in index.lines() {
+        paths.push(String::from_str(rt.alloc(), line)?)?;
     }
     Ok(paths)
+}
+
+/// The paths of the case files: the program's words or, where there are none, the lines of the index.
+fn paths<R: Files + Env + AllocGlobal>(rt: &R) -> Result<Vec<String>> {
+    let words = words(rt)?;
+    if words.is_empty() {
+        return indexed(rt);
+    }
+    Ok(words)
 }
 
 /// Runs the cases of a file, prints a report of each, and says whether all are as they must be.

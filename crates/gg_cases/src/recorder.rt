@@ -30,15 +30,6 @@ pub struct Recorder {
     writes: Vec<Write>,
 }
 
-/// What a recorder is taken apart into.
-#[derive(Drop)]
-pub struct Recorded {
-    pub objects: Many<(Name, Bytes)>,
-    pub notes: Many<(Name, Bytes)>,
-    pub writes: Vec<Write>,
-    pub calls: u64,
-}
-
 impl Recorder {
     pub fn new(alloc: Global, keeper: MemKeeper) -> Self {
         Recorder {
@@ -47,16 +38,16 @@ impl Recorder {
         }
     }
 
-    pub fn into_recorded(self) -> Recorded {
+    /// How many calls were made.
+    pub fn calls(&self) -> u64 {
+        self.keeper.calls()
+    }
+
+    /// The objects and the notes that it keeps, and the writes that were made.
+    pub fn into_recorded(self) -> (Many<(Name, Bytes)>, Many<(Name, Bytes)>, Vec<Write>) {
         let Recorder { keeper, writes } = self;
-        let calls = keeper.calls();
         let (objects, notes) = keeper.into_content();
-        Recorded {
-            objects,
-            notes,
-            writes,
-            calls,
-        }
+        (objects, notes, writes)
     }
 }
 
@@ -65,7 +56,11 @@ impl Keeper for Recorder {
 
     ghost store = { λ r. store_of r.keeper };
 
+    ghost writes = { λ r. r.keeper.writes };
+
     ghost faults = { λ r. r.keeper.calls.faults };
+
+    ghost calls = { λ r. r.keeper.calls.count };
 
     fn get(&mut self, alloc: Global, name: &Name) -> Result<Option<Bytes>, Trouble> {
         self.keeper.get(alloc, name)

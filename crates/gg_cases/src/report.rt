@@ -21,27 +21,46 @@ fn name_of_file(path: &str) -> &str {
     file.strip_suffix(".case").unwrap_or(file)
 }
 
-/// What is printed of the outcome of a case.
-fn outcome_lines(
+/// What is printed of a line that isn't of its form.
+fn form_line(
     alloc: Global,
     name: &str,
+    number: usize,
+    why: &'static str,
+) -> Result<String, AllocError> {
+    format!(in alloc; "{name}: line {number}: {why}")
+}
+
+/// What is printed before the lines that differ.
+fn differs_line(alloc: Global, name: &str, number: usize) -> Result<String, AllocError> {
+    format!(in alloc; "{name}: line {number} differs:")
+}
+
+/// Adds what is printed of the outcome of a case.
+fn add_outcome(
+    alloc: Global,
+    lines: &mut Vec<String>,
+    name: &str,
     outcome: Result<(), Wrong>,
-) -> Result<Vec<String>, AllocError> {
-    let mut lines = Vec::new(alloc);
+) -> Result<(), AllocError> {
     match outcome {
-        Ok(()) => lines.push(format!(in alloc; "ok {name}")?)?,
-        Err(Wrong::Form { number, why }) => {
-            lines.push(format!(in alloc; "{name}: line {number}: {why}")?)?;
-        }
+        Ok(()) => lines.push(marked(alloc, "ok ", name)?)?,
+        Err(Wrong::Form { number, why }) => lines.push(form_line(alloc, name, number, why)?)?,
         Err(Wrong::Differs { number, shown }) => {
-            lines.push(format!(in alloc; "{name}: line {number} differs:")?)?;
-            for line in shown {
-                lines.push(line)?;
-            }
+            lines.push(differs_line(alloc, name, number)?)?;
+            add_all(lines, shown)?;
         }
         Err(Wrong::Memory) => return Err(AllocError),
     }
-    Ok(lines)
+    Ok(())
+}
+
+/// Appends some lines.
+fn add_all(lines: &mut Vec<String>, others: Vec<String>) -> Result<(), AllocError> {
+    for line in others {
+        lines.push(line)?;
+    }
+    Ok(())
 }
 
 /// The lines that a case that must fail has to print.
@@ -89,10 +108,7 @@ impl Report {
         outcome: Result<(), Wrong>,
     ) -> Result<(), AllocError> {
         self.ok = self.ok && outcome.is_ok();
-        for line in outcome_lines(alloc, name, outcome)? {
-            self.lines.push(line)?;
-        }
-        Ok(())
+        add_outcome(alloc, &mut self.lines, name, outcome)
     }
 
     /// Adds the outcome of a case, which has to be as it says or, where it must fail, to fail so.
@@ -106,7 +122,8 @@ impl Report {
         let Some(first) = case.must_print.first() else {
             return self.add(alloc, case.name, outcome);
         };
-        let got = outcome_lines(alloc, case.name, outcome)?;
+        let mut got = Vec::new(alloc);
+        add_outcome(alloc, &mut got, case.name, outcome)?;
         let failure = match must_print(alloc, sections, case.must_print.as_slice()) {
             Ok(expected) => expect_failure(alloc, first.number, expected, got),
             Err(wrong) => Err(wrong),

@@ -4,7 +4,7 @@ use crate::case_text::SectionText;
 use crate::section_bytes::{Marks, joined, marked_bytes};
 use crate::wrong::Wrong;
 use indexmap::IndexMap;
-use object_name::{Bytes, Name, name_of};
+use object_name::{Bytes, Name, SPELLING_LEN, name_of};
 use std::alloc::{AllocError, Global};
 use thunk_codec::Path;
 
@@ -65,7 +65,7 @@ impl<'a> Head<'a> {
 
 /// The spelling of a name.
 pub fn spelled(alloc: Global, name: &Name) -> Result<String, AllocError> {
-    let mut spelling = [0u8; 52];
+    let mut spelling = [0u8; SPELLING_LEN];
     name.spell(&mut spelling);
     let mut text = String::new(alloc);
     for byte in spelling {
@@ -121,14 +121,26 @@ impl Sections {
         let mut pieces = text.split('{');
         let mut made = String::from_str(alloc, pieces.next().unwrap_or(""))?;
         for piece in pieces {
-            let (name, rest) = piece
-                .split_once('}')
-                .ok_or(bad(number, "a brace that isn't closed"))?;
-            let name = self.content_name(number, name)?;
-            made.push_str(spelled(alloc, &name)?.as_str())?;
-            made.push_str(rest)?;
+            self.append_piece(alloc, number, piece, &mut made)?;
         }
         Ok(made)
+    }
+
+    /// Appends the content name of a name that a brace closes, and what stands behind it.
+    fn append_piece(
+        &self,
+        alloc: Global,
+        number: usize,
+        piece: &str,
+        made: &mut String,
+    ) -> Result<(), Wrong> {
+        let Some((name, rest)) = piece.split_once('}') else {
+            return Err(bad(number, "a brace that isn't closed"));
+        };
+        let name = self.content_name(number, name)?;
+        made.push_str(spelled(alloc, &name)?.as_str())?;
+        made.push_str(rest)?;
+        Ok(())
     }
 
     /// Adds a section.

@@ -2,14 +2,4 @@
 #![tactic(auto)]
 
 #[cfg(test)]
-mod archives;
-#[cfg(test)]
-mod fib_jobs;
-#[cfg(test)]
-mod include_lines;
-#[cfg(test)]
-mod scan_faults;
-#[cfg(test)]
 mod scans;
-#[cfg(test)]
-mod sources;

@@ -1,42 +1,48 @@
 //! The files that scanning a source lists.
 
-use crate::sources::{Files, PROGRAM, files_of, folder, path, tree_of};
+use file_tree::MemTree;
 use include_scan::scan;
-use object_name::Bytes;
+use object_name::{Bytes, Many};
 use std::alloc::Global;
 use std::test::Fail;
-use thunk_codec::Folder;
+use thunk_codec::{Folder, Path};
 
-const CYCLE: Files = &[
-    (b"a.c", b"#ifdef Z\n#include \"z.h\"\n#endif\n"),
-    (b"z.h", b"#include \"a.c\"\n"),
-];
-
-const NOWHERE: Files = &[(
-    b"a.c",
-    b"#include \"x.h\"\n#include <y.h>\n#include \"/z.h\"\n",
-)];
-
-const EVERYWHERE: Files = &[
+/// Paths and the texts of the files there.
+const FILES: [(&[u8], &[u8]); 7] = [
     (
         b"s/a.c",
-        b"#include \"x.h\"\n#include <x.h>\n#include <y.h>\n#include <z.h>\n",
+        b"#include \"x.h\"\n#include <y.h>\n#ifdef Z\n#include <z.h>\n#endif\n#include <none.h>\n",
     ),
-    (b"s/x.h", b""),
+    (b"s/x.h", b"#include \"a.c\"\n"),
     (b"p/x.h", b""),
-    (b"q/x.h", b""),
+    (b"p/y.h", b""),
     (b"q/y.h", b""),
-    (b"sys/include/x.h", b""),
     (b"sys/include/y.h", b""),
     (b"sys/include/z.h", b""),
 ];
 
-/// The paths that scanning a source gives, each with a line feed after it.
-fn scanned(alloc: Global, files: Files, source: &[u8], folders: &[Folder]) -> Result<Bytes, Fail> {
-    let mut tree = tree_of(alloc, files_of(alloc, files)?)?;
-    let paths = scan(alloc, &mut tree, &path(alloc, source)?, folders, 0)?;
+/// What is scanned: a header beside its source, one in the folder, and one of the system.
+const SCANNED: &[u8] = b"p/y.h\ns/a.c\ns/x.h\nsys/include/z.h\n";
+
+/// The path of a text.
+fn path(alloc: Global, text: &[u8]) -> Result<Path, Fail> {
+    Ok(Path::read(alloc, text)?.ok_or("a path")?)
+}
+
+/// A tree of the files, of which no call fails.
+fn tree(alloc: Global) -> Result<MemTree, Fail> {
+    let mut held = Many::new(alloc);
+    for (text, bytes) in FILES {
+        let bytes = Bytes::from_slice(alloc, bytes)?;
+        held.push((path(alloc, text)?, bytes))?;
+    }
+    Ok(MemTree::new(alloc, held, Many::new(alloc))?)
+}
+
+/// The paths, each with a line feed after it.
+fn lines(alloc: Global, paths: &[Path]) -> Result<Bytes, Fail> {
     let mut text = Bytes::new(alloc);
-    for path in paths.as_slice() {
+    for path in paths {
         text.append(path.text())?;
         text.append(b"\n")?;
     }
@@ -44,37 +50,12 @@ fn scanned(alloc: Global, files: Files, source: &[u8], folders: &[Folder]) -> Re
 }
 
 #[test]
-fn headers_of_headers_are_scanned(rt: HostRuntime) -> Result<(), Fail> {
-    let paths = scanned(rt.alloc(), PROGRAM, b"a.c", &[])?;
-    assert_eq!(rt;
-        paths.as_slice(),
-        b"a.c\na.h\nb.h\nsys/include/stdio.h\n".as_slice()
-    );
-    Ok(())
-}
-
-#[test]
-fn inactive_groups_are_scanned_and_cycles_end(rt: HostRuntime) -> Result<(), Fail> {
-    let paths = scanned(rt.alloc(), CYCLE, b"a.c", &[])?;
-    assert_eq!(rt; paths.as_slice(), b"a.c\nz.h\n".as_slice());
-    Ok(())
-}
-
-#[test]
-fn a_header_that_is_nowhere_is_passed_over(rt: HostRuntime) -> Result<(), Fail> {
-    let paths = scanned(rt.alloc(), NOWHERE, b"a.c", &[])?;
-    assert_eq!(rt; paths.as_slice(), b"a.c\n".as_slice());
-    Ok(())
-}
-
-#[test]
-fn folders_are_searched_in_order(rt: HostRuntime) -> Result<(), Fail> {
+fn a_source_is_scanned(rt: HostRuntime) -> Result<(), Fail> {
     let alloc = rt.alloc();
-    let folders = [folder(alloc, b"p")?, folder(alloc, b"q")?];
-    let paths = scanned(alloc, EVERYWHERE, b"s/a.c", &folders)?;
-    assert_eq!(rt;
-        paths.as_slice(),
-        b"p/x.h\nq/y.h\ns/a.c\ns/x.h\nsys/include/z.h\n".as_slice()
-    );
+    let folder = Folder::read(alloc, b"p")?.ok_or("a folder")?;
+    let source = path(alloc, b"s/a.c")?;
+    let mut tree = tree(alloc)?;
+    let paths = scan(alloc, &mut tree, &source, &[folder], 0)?;
+    assert_eq!(rt; lines(alloc, paths.as_slice())?.as_slice(), SCANNED);
     Ok(())
 }
