@@ -6,3 +6,4 @@ pub mod PairsByName
 pub mod StoreAfterPut
 pub mod PublicLaws
 mod TriesOnKeeper
+pub mod KeptGrows

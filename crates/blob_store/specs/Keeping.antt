@@ -2,6 +2,8 @@
 use Rattle.std.specs.Prelude.{◌≡◌, ◌⊎◌, ◌++◌, ℕ, List, Some, None, Result, Ok, Err}
 use Rattle.object_name.specs.Name.{ObjectName, name_of}
 use Rattle.object_name.specs.Causes.{RoseBy}
+use Rattle.object_name.specs.Made.{ListsMade}
+use Rattle.object_name.specs.Streams.{IsPrefix}
 use Rattle.object_name.specs.declared.trouble.Trouble.{Trouble}
 use Rattle.blob_store.specs.declared.storing.StoreFault.{StoreFault}
 use Rattle.blob_store.specs.declared.storing.StoreFault.TheVariants.{Clash, Failed, Memory}
@@ -15,6 +17,17 @@ pub record Kept : Type 0 where
 -- what this keeper tells
 abbrev pub kept : {K : Type 0} → (K → Store) → (K → List Write) → K → Kept
 kept store writes keeper = record { store = store keeper; writes = writes keeper }
+
+-- after these writes, each of which was answered Ok, once and in order
+abbrev pub all_written : Kept → List Write → Kept
+all_written before writes = record { store = written before.store writes; writes = before.writes ++ writes }
+
+-- a prefix of these writes was made, each once and in order: the last of them may have failed
+pub record WritesPrefix (writes : List Write) (before after : Kept) : Type 0 where
+  pub prefix : List Write
+  pub is_prefix : IsPrefix prefix writes
+  pub store : after.store ≡ written before.store prefix
+  pub listed : ListsMade before.writes prefix after.writes
 
 -- a write that failed was made or was not
 abbrev pub MayWrite : Store → Write → Store → Type 0

@@ -72,7 +72,7 @@ module _ (bytes : List ℕ) (s : State) where
           list = ap (λ e. (state_after e).writes) (store_one-free none) ∙ ap (λ writes. s.writes ++ writes) one;
           kept = stored.made;
         };
-        listed = inr (record { front = []; last = own_write bytes; split = refl; list = list ∙ sym (append-nil (first ++ s.writes)) });
+        listed = inr (record { prefix = []; last = own_write bytes; split = refl; list = list ∙ sym (append-nil (first ++ s.writes)) });
       }
 
 -- what storing did is what the definition gives

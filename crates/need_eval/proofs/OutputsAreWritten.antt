@@ -169,5 +169,5 @@ module _ (name resolved : ObjectName) (t : Parts) (outcome : Outcome) (named : r
         kept = noted ∙ ap (λ store. after_write store (note_write resolved outputs)) puts.put ∙ sym (written-append old.store puts.made (note_write resolved outputs ∷ []))
             ∙ ap (λ store. written store (puts.made ++ note_write resolved outputs ∷ [])) (sym at.store);
       };
-      listed = inr (record { front = puts.made; last = note_write resolved outputs; split = refl; list = outputs-listed now unlisted first s at });
+      listed = inr (record { prefix = puts.made; last = note_write resolved outputs; split = refl; list = outputs-listed now unlisted first s at });
     }

@@ -7,7 +7,8 @@ use Rattle.need_eval.specs.declared.fault.EvalFault.{EvalFault}
 use Rattle.need_eval.specs.declared.fault.EvalFault.TheVariants as faults
 use Rattle.need_eval.specs.declared.evaluating.Values.{Values}
 use Rattle.need_eval.specs.Eval.{State, Ended}
-use Rattle.need_eval.specs.WritePrefix.{state_after, IsAt, ListsMade, StopsPartWay, Stops, Does}
+use Rattle.object_name.specs.Made.{ListsMade}
+use Rattle.need_eval.specs.WritePrefix.{state_after, IsAt, StopsPartWay, Stops, Does}
 use Rattle.need_eval.specs.StepContracts.{StopsReading, kept_in, RunCause}
 use Rattle.blob_store.proofs.PublicLaws.{written-append}
 use Rattle.need_eval.proofs.StoreIsWritten.{Grows}
@@ -23,10 +24,10 @@ part_way-unwritten first s e now grown at = record {
 lists-earlier : (first made writes after : List Write) → ListsMade (first ++ made) writes after → ListsMade first (made ++ writes) after
 lists-earlier first made writes after (inl is) = inl (is ∙ append_assoc first made writes)
 lists-earlier first made writes after (inr h) = inr (record {
-  front = made ++ h.front;
+  prefix = made ++ h.prefix;
   last = h.last;
-  split = ap (λ (writes : List Write). made ++ writes) h.split ∙ sym (append_assoc made h.front (h.last ∷ []));
-  list = h.list ∙ append_assoc first made h.front;
+  split = ap (λ (writes : List Write). made ++ writes) h.split ∙ sym (append_assoc made h.prefix (h.last ∷ []));
+  list = h.list ∙ append_assoc first made h.prefix;
 })
 
 -- from an earlier state

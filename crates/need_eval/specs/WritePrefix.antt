@@ -3,6 +3,7 @@ use Rattle.std.specs.Prelude.{◌≡◌, ◌⊎◌, ℕ, List, ◌++◌, ◌∷�
 use Rattle.std.specs.List.{AllZip}
 use Rattle.object_name.specs.Name.{ObjectName}
 use Rattle.object_name.specs.Causes.{Rose, RoseBy}
+use Rattle.object_name.specs.Made.{ListsMade}
 use Rattle.thunk_codec.specs.declared.job.Job.{Job}
 use Rattle.thunk_codec.specs.declared.job.Outcome.{Outcome}
 use Rattle.thunk_codec.specs.Outcome.{Fits}
@@ -30,17 +31,6 @@ pub record StopsWith {A : Type 0} (why : Stop) (e : Ended A) (now : Store) : Typ
   pub last : State
   pub stopped : e ≡ Stopped why last
   pub store : now ≡ last.store
-
--- the last of what was to be made failed, which may have been made: what was answered Ok is what stands before it, once each
-pub record ListsAllButLast {A : Type 0} (before made after : List A) : Type 0 where
-  pub front : List A
-  pub last : A
-  pub split : made ≡ front ++ last ∷ []
-  pub list : after ≡ before ++ front
-
--- what was made was answered Ok, once each and in order, after what was before; or all but the last, which failed
-abbrev pub ListsMade : {A : Type 0} → List A → List A → List A → Type 0
-ListsMade before made after = (after ≡ before ++ made) ⊎ ListsAllButLast before made after
 
 -- the store has a prefix of the writes, and the puts that were answered Ok are this prefix; those before the evaluation began
 -- stand first

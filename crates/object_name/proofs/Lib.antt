@@ -10,3 +10,4 @@ pub mod TriesSoFar
 pub mod CountedTries
 pub mod PublicLaws
 pub mod BytesHaveNames
+pub mod ListsGrow

@@ -17,3 +17,5 @@ pub use Rattle.object_name.proofs.TriesSoFar.{HasTried, IsReading, IsWriting}
 pub use Rattle.object_name.proofs.BytesHaveNames.{is-name}
 -- calls that were tried again and failed so often: none, one after another, the last of some, and where more may be answered
 pub use Rattle.object_name.proofs.CountedTries.{HasCounted, tries-none, tries-trans, tries-last, tries-more}
+-- what was answered Ok after what was answered Ok before
+pub use Rattle.object_name.proofs.ListsGrow.{ListsMade-after}

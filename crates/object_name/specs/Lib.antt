@@ -7,3 +7,4 @@ pub mod Streams
 pub mod ReadEnd
 pub mod Calls
 pub mod Maps
+pub mod Made
