@@ -1,7 +1,9 @@
-//! Tests of names, paths, thunks and placeholders, by public calls that no program makes.
+//! Tests of names, paths, orders, thunks and placeholders, by public calls that no program makes.
 #![tactic(auto)]
 
 #[cfg(test)]
 mod names;
+#[cfg(test)]
+mod orders;
 #[cfg(test)]
 mod thunks;

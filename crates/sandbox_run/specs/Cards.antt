@@ -1,6 +1,7 @@
 -- The function of jobs that cards give: each job is the work of the tool whose card its function is.
-use Rattle.std.specs.Prelude.{ℕ, List, [], ◌∷◌, ◌++◌, Bool, nat_le, sum_by, length, bytes_eq, codes, if◌then◌else◌}
+use Rattle.std.specs.Prelude.{ℕ, List, Bool, nat_le, sum_by, length, bytes_eq, codes, if◌then◌else◌}
 use Rattle.object_name.specs.Name.{max_size}
+use Rattle.thunk_codec.specs.Card.{card_text}
 use Rattle.thunk_codec.specs.declared.job.Job.{Job}
 use Rattle.thunk_codec.specs.declared.job.Outcome.{Outcome}
 use Rattle.thunk_codec.specs.declared.job.Outcome.TheVariants.{Done, Failed}
@@ -15,9 +16,9 @@ use Rattle.tool_bin.specs.Compile.{cc1_outcome}
 use Rattle.tool_bin.specs.Link.{ld_outcome}
 use Rattle.tool_bin.specs.Strip.{strip_outcome}
 
--- whether function bytes are the card of this name: `gg-tool `, the name and a line feed
+-- whether function bytes are the card of this name
 abbrev pub is_card : List ℕ → List ℕ → Bool
-is_card name function = bytes_eq function (codes "gg-tool " ++ (name ++ 10 ∷ []))
+is_card name function = bytes_eq function (card_text name)
 
 -- what the tool of a card gives, however long its outputs are; a function that is no card has status 203
 unfoldable pub tool_outcome : List ℕ → Job → Outcome

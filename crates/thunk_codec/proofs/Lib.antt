@@ -15,4 +15,8 @@ pub mod Makes
 pub mod Folders
 pub mod InputsFound
 pub mod Placeholders
+pub mod SortedByKey
+pub mod SortedPaths
+pub mod PartsFit
+pub mod ShortPaths
 pub mod PublicLaws

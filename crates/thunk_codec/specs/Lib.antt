@@ -11,3 +11,6 @@ pub mod Raw
 pub mod Resolved
 pub mod Folder
 pub mod Placeholder
+pub mod Card
+pub mod Sorted
+pub mod Fitting

@@ -1,6 +1,6 @@
 //! Laws of paths, references, thunks and jobs that no single call shows.
 
-ghost use Rattle.std.specs.Prelude.{IsTrue, ◌≡◌, ◌≤◌, ◌<◌, ◌^◌, ◌↔◌, ◌++◌, [], List, ℕ, Some, length, map};
+ghost use Rattle.std.specs.Prelude.{IsTrue, true, ◌≡◌, ◌≤◌, ◌<◌, ◌^◌, ◌↔◌, ◌++◌, [], List, ℕ, Some, length, map};
 ghost use Rattle.std.specs.List.{AllByRecursion};
 ghost use Rattle.object_name.specs.Name.{ObjectName, max_size};
 ghost use Rattle.thunk_codec.specs.declared.job.Job.{Job};
@@ -10,7 +10,8 @@ ghost use Rattle.thunk_codec.specs.Path.{path_of, is_path};
 ghost use Rattle.thunk_codec.specs.Folder.{folder_of, is_folder, parent_of, last_of, joined_from};
 ghost use Rattle.thunk_codec.specs.Placeholder.{IsPlaceholder, placeholder_of};
 ghost use Rattle.thunk_codec.specs.Reference.{IsRef, ref_text, ref_of};
-ghost use Rattle.thunk_codec.specs.Thunk.{Parts, IsThunk, Text};
+ghost use Rattle.thunk_codec.specs.Thunk.{Parts, IsThunk, Text, keeps_rules};
+ghost use Rattle.thunk_codec.specs.Fitting.{AreFit, unreferring, text_bound};
 ghost use Rattle.thunk_codec.specs.Reading.{thunk_of};
 ghost use Rattle.thunk_codec.specs.Job.{job_size, size_by_lengths};
 ghost use Rattle.thunk_codec.specs.Resolved.{refs_of, resolved_by, AreNames, HaveValueKind, OfThunk, HaveObjectLengths};
@@ -90,4 +91,10 @@ pub fn thunks_have_refs()
 pub fn resolved_thunks()
     ensures thunk { (t : Parts) (values : List ObjectName) → IsThunk t → AreNames values → HaveValueKind values → IsThunk (resolved_by t values) }
     ensures refs { (t : Parts) (values : List ObjectName) → length values ≡ length (refs_of t) → refs_of (resolved_by t values) ≡ map Value values }
+{}
+
+/// Parts that keep the rules and whose lines are short enough make a thunk, whatever references stand in them.
+pub fn parts_fit()
+    ensures { (args : List (List ℕ)) (envs : List (List ℕ × List ℕ)) (paths : List (List ℕ)) (outputs : List (List ℕ))
+        → keeps_rules (unreferring args envs paths outputs) ≡ true → text_bound args envs paths outputs ≤ max_size → AreFit args envs paths outputs }
 {}

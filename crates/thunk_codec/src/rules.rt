@@ -53,14 +53,14 @@ pub fn is_identifier(text: &[u8]) -> bool
 }
 
 /// Whether a text is before another, byte by byte.
-fn is_before(first: &[u8], second: &[u8]) -> bool
+pub fn is_before(first: &[u8], second: &[u8]) -> bool
     ensures { result ≡ is_lt (slice_cmp nat_cmp first.now second.now) }
 {
     first.cmp(second).is_lt()
 }
 
 /// Whether each text is before the next.
-fn are_sorted<T>(items: &[(Bytes, T)]) -> bool
+pub fn are_sorted<T>(items: &[(Bytes, T)]) -> bool
     ensures { result ≡ is_strictly_increasing (map (λ item. item.0) items.now) }
 {
     let mut rest = items;
@@ -122,7 +122,7 @@ fn is_path_among(paths: &[Path], path: &Path) -> bool
 }
 
 /// Whether no path is repeated.
-fn paths_are_distinct(paths: &[Path]) -> bool
+pub fn paths_are_distinct(paths: &[Path]) -> bool
     ensures { result ≡ are_distinct paths.now }
 {
     let mut rest = paths;
