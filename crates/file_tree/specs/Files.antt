@@ -1,6 +1,8 @@
 -- A tree of files: a map from normal paths to bytes.
-use Rattle.std.specs.Prelude.{◌≡◌, ◌⊎◌, ◌≤◌, ℕ, List, [], ◌∷◌, length, nat_le, bytes_eq, Option, Some, None, if◌then◌else◌}
+use Rattle.std.specs.Prelude.{◌≡◌, ◌⊎◌, ◌≤◌, ℕ, List, [], ◌∷◌, ◌++◌, length, nat_le, bytes_eq, Option, Some, None, if◌then◌else◌}
+use Rattle.object_name.specs.Made.{ListsMade}
 use Rattle.object_name.specs.Name.{max_size}
+use Rattle.object_name.specs.Streams.{IsPrefix}
 pub use Rattle.thunk_codec.specs.Files.{Files}
 use Rattle.file_tree.specs.declared.change.Change.{Change}
 use Rattle.file_tree.specs.declared.change.Change.TheVariants.{Written, Removed}
@@ -37,6 +39,17 @@ pub record Filed : Type 0 where
 -- what this tree tells
 abbrev pub filed_in : {T : Type 0} → (T → Files) → (T → List Change) → T → Filed
 filed_in files changes tree = record { files = files tree; changes = changes tree }
+
+-- after these changes, each of which was answered Ok, once and in order
+abbrev pub all_changed : Filed → List Change → Filed
+all_changed before changes = record { files = changed before.files changes; changes = before.changes ++ changes }
+
+-- a prefix of these changes was made, each once and in order: the last of them may have failed
+pub record ChangesPrefix (changes : List Change) (before after : Filed) : Type 0 where
+  pub prefix : List Change
+  pub is_prefix : IsPrefix prefix changes
+  pub files : after.files ≡ changed before.files prefix
+  pub listed : ListsMade before.changes prefix after.changes
 
 -- a change that failed was made or was not
 abbrev pub MayChange : Files → Change → Files → Type 0

@@ -3,3 +3,4 @@ pub mod InStore
 pub mod Memory
 pub mod Wanted
 pub mod WantAnswers
+pub mod Planning

@@ -66,8 +66,9 @@ fn refs_of<T: Tree>(
     Ok(refs)
 }
 
-/// The reference of an item.
-fn ref_of_item<T: Tree>(
+/// The reference of an item: a reference itself, and of a file that of its placeholder. A failed call of the tree is tried again,
+/// `retries` times at most.
+pub fn ref_of_item<T: Tree>(
     alloc: Global,
     tree: &mut T,
     item: &Item,
