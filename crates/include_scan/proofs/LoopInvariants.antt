@@ -7,7 +7,7 @@ use Rattle.object_name.specs.Causes.{TriesAtMost}
 use Rattle.text_lines.specs.Lines.{lines_of}
 use Rattle.tool_text.specs.Including.{first_there}
 use Rattle.include_scan.specs.declared.queue.Queue.{Queue}
-use Rattle.include_scan.specs.Scanning.{after_lines, gathered}
+use Rattle.include_scan.specs.Scanning.{after_lines, gathered, max_files}
 use Rattle.include_scan.specs.Queue.{NoneRefused, Waits}
 
 module _ {T : Type 0} (tells : Type 0) (files : T → Files) (changes : T → List Change) (faults calls : T → ℕ) (n : ℕ) (old now : T) where
@@ -29,10 +29,12 @@ module _ {T : Type 0} (tells : Type 0) (files : T → Files) (changes : T → Li
     pub so_far : tells → (index : ℕ) → Waits (files old) index before → length bytes ≤ max_size
         → (after_lines (files old) folders path number (lines_of rest) queue.visited.keys ≡ after_lines (files old) folders path 1 (lines_of bytes) before.visited.keys) × Waits (files old) index queue
     pub counted : number + length rest ≤ 1 + length bytes
+    pub few : length before.visited.keys ≤ max_files → length queue.visited.keys ≤ max_files
     pub keeps : Keeps
 
   -- the files that wait meet what all files meet
   pub record GatheringSoFar (folders : List (List ℕ)) (before queue : Queue) (index : ℕ) : Type 0 where
     pub so_far : tells → Waits (files old) 0 before
         → (gathered (files old) folders (4096 - index) index queue.visited.keys ≡ gathered (files old) folders 4096 0 before.visited.keys) × Waits (files old) index queue
+    pub few : length before.visited.keys ≤ max_files → length queue.visited.keys ≤ max_files
     pub keeps : Keeps

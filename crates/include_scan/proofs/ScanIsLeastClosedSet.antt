@@ -149,7 +149,6 @@ module _ (files : Files) (folders : List (List ℕ)) (source : List ℕ) where
   pub record IsFoundAll (visited : List (List ℕ)) : Type 0 where
     pub scanned : IsScanned files folders source (is_among visited)
     pub there : AllIn files folders source (exists files folders source) visited
-    pub few : length visited ≤ max_files
 
   found : (first visited : List (List ℕ)) → VisitsFile files folders source source [] first → Gathers max_files first visited → IsFoundAll visited
   found first visited h g =
@@ -163,7 +162,6 @@ module _ (files : Files) (folders : List (List ℕ)) (source : List ℕ) where
           least = λ other closed. onward.least other closed (λ path among. absurd (none_among path among));
         };
         there = onward.there (λ path among. absurd (none_among path among));
-        few = onward.few (lit≤ tt);
       }
 
   pub scan_goes : HoldsOk IsFoundAll (scan_of files folders source)

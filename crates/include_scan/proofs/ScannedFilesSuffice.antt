@@ -1,5 +1,5 @@
 -- The scanned files alone, as the inputs of a job, give what all files give.
-use Rattle.std.proofs.Common.{◌≡◌, ◌≤◌, ℕ, List, [], ◌∷◌, true, false, ◌||◌, Option, Some, None, Ok, IsTrue, length, refl, sym, ap, subst, ◌∙◌}
+use Rattle.std.proofs.Common.{◌≡◌, ℕ, List, [], ◌∷◌, true, false, ◌||◌, Option, Some, None, Ok, IsTrue, length, refl, sym, ap, subst, ◌∙◌}
 use Rattle.std.specs.Prelude.{bytes_eq, unwrap_or, ◌==◌, IfSome, if◌then◌else◌}
 use Rattle.std.specs.Option.{is_some}
 use Rattle.std.proofs.lemmas.Bool.{false≢true}
@@ -14,7 +14,7 @@ use Rattle.tool_text.specs.Cpp.{Settings, no_settings, with_arguments, result_ou
 use Rattle.tool_text.specs.Preprocess.{preprocessed}
 use Rattle.text_lines.specs.Among.{is_among}
 use Rattle.include_scan.specs.Scanned.{IsClosed, IsScanned, Suffices, AreThere, IsOver, SufficesForJobs, bytes_at, inputs_of, only, with_inputs}
-use Rattle.include_scan.specs.Scanning.{IsInOrder, max_files, scan_of}
+use Rattle.include_scan.specs.Scanning.{IsInOrder, scan_of}
 use Rattle.include_scan.proofs.ClosedSetSuffices.{preprocessed_agree}
 use Rattle.include_scan.proofs.VisitedGrow.{HoldsOk, AllIn, exists, on_bool, or_first, or_second}
 use Rattle.include_scan.proofs.ScanIsLeastClosedSet.{IsFoundAll, scan_goes}
@@ -106,7 +106,3 @@ module _ (files : Files) (folders : List (List ℕ)) (source : List ℕ) where
     -- for jobs too
     pub paths_suffice_for_jobs : SufficesForJobs files folders source paths
     paths_suffice_for_jobs = closed_suffice_for_jobs paths paths_scanned.closed paths_there
-
-    -- and are no more than a scan visits
-    pub paths_are_few : length paths ≡ length visited → length paths ≤ max_files
-    paths_are_few same = subst (λ number. number ≤ max_files) (sym same) what_is_found.few

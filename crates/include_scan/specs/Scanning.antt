@@ -4,6 +4,7 @@ use Rattle.std.specs.Prelude.{◌≡◌, ℕ, zero, suc, ◌+◌, List, [], ◌�
 use Rattle.std.specs.Option.{is_some}
 use Rattle.object_name.specs.Causes.{RoseBy}
 use Rattle.thunk_codec.specs.Placeholder.{placeholder_of}
+use Rattle.thunk_codec.specs.Sorted.{sorted_paths}
 use Rattle.thunk_codec.specs.Thunk.{is_strictly_increasing}
 use Rattle.thunk_codec.specs.Files.{Files}
 use Rattle.file_tree.specs.Files.{file_read}
@@ -86,6 +87,10 @@ gathered files folders (suc more) index visited = after_first files folders (dro
 unfoldable pub scan_of : Files → List (List ℕ) → List ℕ → Visiting
 scan_of files folders source = visit_file files source [] >>= λ visited. gathered files folders max_files 0 visited
 
+-- the files of a source in path order, or the first refusal
+abbrev pub scanned_paths : Files → List (List ℕ) → List ℕ → Visiting
+scanned_paths files folders source = scan_of files folders source >>= λ visited. Ok (sorted_paths visited)
+
 -- the same paths, each once, each before the next byte by byte
 pub record IsInOrder (visited : List (List ℕ)) (paths : List (List ℕ)) : Type 0 where
   pub same : (path : List ℕ) → is_among paths path ≡ is_among visited path
@@ -102,6 +107,11 @@ StopsSo wanted Memory = Unit {0}
 abbrev pub Scans : Visiting → Visiting → Type 0
 Scans wanted (Ok paths) = (visited : List (List ℕ)) × ((wanted ≡ Ok visited) × IsInOrder visited paths)
 Scans wanted (Err fault) = StopsSo wanted fault
+
+-- the answer is this one, unless scanning stops
+abbrev pub ScansTo : Visiting → Visiting → Type 0
+ScansTo wanted (Ok paths) = wanted ≡ Ok paths
+ScansTo wanted (Err fault) = StopsSo wanted fault
 
 -- a fault is answered only where the tree's count rose by more than the retries
 abbrev pub ScanCause : {X : Type 0} → ℕ → ℕ → ℕ → Result X ScanFault → Type 0

@@ -1,10 +1,10 @@
 //! The files that were visited, and those of them that wait for a look at their lines.
 
-ghost use Rattle.std.specs.Prelude.{◌≡◌, ◌≢◌, ℕ, List, [], Option, false, IfErr};
+ghost use Rattle.std.specs.Prelude.{◌≡◌, ◌≢◌, ◌≤◌, ℕ, List, [], Option, false, IfErr, OnOk, length};
 ghost use Rattle.thunk_codec.specs.Files.{Files};
 ghost use Rattle.file_tree.specs.Files.{file_read};
 ghost use Rattle.text_lines.specs.Among.{is_among};
-ghost use Rattle.include_scan.specs.Scanning.{visit_file, visit_found};
+ghost use Rattle.include_scan.specs.Scanning.{max_files, visit_file, visit_found};
 ghost use Rattle.include_scan.specs.Queue.{IsFound, IsNext, Judges, Visits, Waits};
 
 use crate::fault::ScanFault;
@@ -42,6 +42,7 @@ impl Queue {
     pub(crate) fn add(&mut self, alloc: Global, path: Path, read: FileRead) -> Result<(), ScanFault>
         ensures exact { (files : Files) (index : ℕ) → Waits files index self.old → is_among self.old.visited.keys path ≡ false → read ≡ file_read (files path)
             → Visits files index self.new (visit_file files path self.old.visited.keys) result }
+        ensures few { OnOk result (length self.old.visited.keys ≤ max_files → length self.new.visited.keys ≤ max_files) }
         ensures cause { IfErr result (λ fault. fault ≢ ScanFault.Failed) }
     {
         if self.visited.len() >= MAX_FILES {
@@ -57,6 +58,7 @@ impl Queue {
     pub(crate) fn visit(&mut self, alloc: Global, found: Found) -> Result<(), ScanFault>
         ensures exact { (files : Files) (index : ℕ) (wanted : Option (List ℕ)) → Waits files index self.old → IsFound files self.old.visited.keys wanted found
             → Visits files index self.new (visit_found files wanted self.old.visited.keys) result }
+        ensures few { OnOk result (length self.old.visited.keys ≤ max_files → length self.new.visited.keys ≤ max_files) }
         ensures cause { IfErr result (λ fault. fault ≢ ScanFault.Failed) }
     {
         match found {

@@ -1,10 +1,13 @@
 //! Scanning.
 
-ghost use Rattle.std.specs.Prelude.{◌≡◌, ◌≤◌, [], IfOk, length};
+ghost use Rattle.std.specs.Prelude.{◌≡◌, ◌≤◌, [], IfOk, OnOk, length, true, bytes_eq};
+ghost use Rattle.std.specs.List.{IsDistinct};
 ghost use Rattle.object_name.specs.Causes.{TriesAtMost};
 ghost use Rattle.text_lines.specs.Among.{is_among};
+ghost use Rattle.thunk_codec.specs.Sorted.{sorted_paths};
+ghost use Rattle.thunk_codec.specs.Thunk.{is_strictly_increasing};
 ghost use Rattle.include_scan.specs.Scanned.{AreThere, IsScanned, Suffices, SufficesForJobs};
-ghost use Rattle.include_scan.specs.Scanning.{IsInOrder, ScanCause, Scans, gathered, max_files, scan_of, scan_failures};
+ghost use Rattle.include_scan.specs.Scanning.{IsInOrder, ScanCause, Scans, ScansTo, gathered, max_files, scan_of, scan_failures, scanned_paths};
 ghost use Rattle.include_scan.specs.Queue.{Leaves, Waits};
 
 use crate::fault::ScanFault;
@@ -14,7 +17,7 @@ use file_tree::{Tree, read_again};
 use indexmap::IndexSet;
 use object_name::{Many, TryCopy};
 use std::alloc::{AllocError, Global};
-use thunk_codec::{Folder, Path};
+use thunk_codec::{Folder, Path, sort_paths};
 
 /// Visits all files that the waiting files reach.
 fn gather<T: Tree>(
@@ -25,6 +28,7 @@ fn gather<T: Tree>(
     retries: u32,
 ) -> Result<(), ScanFault>
     ensures exact { T.tells → Waits (T.files tree.old) 0 queue.old → Leaves (gathered (T.files tree.old) folders.now max_files 0 queue.old.visited.keys) queue.new.visited.keys result }
+    ensures few { OnOk result (length queue.old.visited.keys ≤ max_files → length queue.new.visited.keys ≤ max_files) }
     ensures same { T.tells → T.files tree.new ≡ T.files tree.old }
     ensures list { T.tells → T.changes tree.new ≡ T.changes tree.old }
     ensures later { T.faults tree.old ≤ T.faults tree.new }
@@ -58,6 +62,7 @@ fn visit_all<T: Tree>(
     retries: u32,
 ) -> Result<(), ScanFault>
     ensures exact { T.tells → queue.old.visited.keys ≡ [] → queue.old.waiting.items ≡ [] → Leaves (scan_of (T.files tree.old) folders.now file.now) queue.new.visited.keys result }
+    ensures few { OnOk result (length queue.old.visited.keys ≤ max_files → length queue.new.visited.keys ≤ max_files) }
     ensures same { T.tells → T.files tree.new ≡ T.files tree.old }
     ensures list { T.tells → T.changes tree.new ≡ T.changes tree.old }
     ensures later { T.faults tree.old ≤ T.faults tree.new }
@@ -71,9 +76,10 @@ fn visit_all<T: Tree>(
 
 /// The paths of a set, in its order.
 fn listed(alloc: Global, visited: IndexSet<Path>) -> Result<Many<Path>, AllocError>
-    ensures { IfOk result (λ paths. paths ≡ visited.keys) }
+    ensures paths { IfOk result (λ paths. paths ≡ visited.keys) }
+    ensures distinct { IsDistinct bytes_eq visited.keys }
 {
-    let mut paths = Many::new(alloc);
+    let mut paths = Many(Vec::with_capacity(alloc, visited.len())?);
     'paths: for path in visited {
         paths.push(path)?;
     }
@@ -82,12 +88,12 @@ fn listed(alloc: Global, visited: IndexSet<Path>) -> Result<Many<Path>, AllocErr
 
 /// The paths that were visited, in order.
 fn in_order(alloc: Global, visited: IndexSet<Path>) -> Result<Many<Path>, AllocError>
+    ensures sorted { IfOk result (λ paths. paths ≡ sorted_paths visited.keys) }
     ensures order { IfOk result (IsInOrder visited.keys) }
     ensures number { IfOk result (λ paths. length paths ≡ length visited.keys) }
 {
-    let mut sorted = visited;
-    sorted.sort()?;
-    listed(alloc, sorted)
+    let paths = listed(alloc, visited)?;
+    sort_paths(paths)
 }
 
 /// The files that preprocessing a source may read, in path order: the source and every file that an include line may find first, through
@@ -103,7 +109,9 @@ pub fn scan<T: Tree>(
     ensures exact { T.tells → Scans (scan_of (T.files tree.old) folders.now file.now) result }
     ensures scanned { T.tells → IfOk result (λ paths. IsScanned (T.files tree.old) folders.now file.now (is_among paths)) }
     ensures there { T.tells → IfOk result (AreThere (T.files tree.old)) }
-    ensures limit { T.tells → IfOk result (λ paths. length paths ≤ max_files) }
+    ensures sorted { T.tells → ScansTo (scanned_paths (T.files tree.old) folders.now file.now) result }
+    ensures rising { IfOk result (λ paths. is_strictly_increasing paths ≡ true) }
+    ensures limit { IfOk result (λ paths. length paths ≤ max_files) }
     ensures suffice { T.tells → IfOk result (λ paths. Suffices (T.files tree.old) folders.now file.now paths) }
     ensures suffice_for_jobs { T.tells → IfOk result (λ paths. SufficesForJobs (T.files tree.old) folders.now file.now paths) }
     ensures same { T.tells → T.files tree.new ≡ T.files tree.old }

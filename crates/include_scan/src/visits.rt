@@ -1,6 +1,6 @@
 //! Visits of the files that the lines of a file go into.
 
-ghost use Rattle.std.specs.Prelude.{◌≡◌, ◌≤◌, ℕ, length};
+ghost use Rattle.std.specs.Prelude.{◌≡◌, ◌≤◌, ℕ, OnOk, length};
 ghost use Rattle.object_name.specs.Name.{max_size};
 ghost use Rattle.text_lines.specs.Lines.{lines_of};
 ghost use Rattle.object_name.specs.Causes.{TriesAtMost};
@@ -9,7 +9,7 @@ ghost use Rattle.tool_text.specs.IncludeLine.{include_of};
 ghost use Rattle.tool_text.specs.Including as including;
 ghost use Rattle.tool_text.specs.Including.{first_there};
 ghost use Rattle.tool_text.specs.Seen.{target_seen};
-ghost use Rattle.include_scan.specs.Scanning.{ScanCause, after_lines, visit_found, scan_failures};
+ghost use Rattle.include_scan.specs.Scanning.{ScanCause, after_lines, max_files, visit_found, scan_failures};
 ghost use Rattle.include_scan.specs.Queue.{Asks, Visits, Waits};
 
 use crate::fault::ScanFault;
@@ -54,6 +54,7 @@ fn visit_target<T: Tree>(
 ) -> Result<(), ScanFault>
     ensures exact { T.tells → (index : ℕ) → Waits (T.files tree.old) index queue.old
         → Visits (T.files tree.old) index queue.new (visit_found (T.files tree.old) (first_there (T.files tree.old) (including.candidates folders.now path.now (target_seen target.entry))) queue.old.visited.keys) result }
+    ensures few { OnOk result (length queue.old.visited.keys ≤ max_files → length queue.new.visited.keys ≤ max_files) }
     ensures same { T.tells → T.files tree.new ≡ T.files tree.old }
     ensures list { T.tells → T.changes tree.new ≡ T.changes tree.old }
     ensures later { T.faults tree.old ≤ T.faults tree.new }
@@ -77,6 +78,7 @@ pub(crate) fn visit_lines<T: Tree>(
 ) -> Result<(), ScanFault>
     ensures exact { T.tells → (index : ℕ) → Waits (T.files tree.old) index queue.old → length bytes.now ≤ max_size
         → Visits (T.files tree.old) index queue.new (after_lines (T.files tree.old) folders.now path.now 1 (lines_of bytes.now) queue.old.visited.keys) result }
+    ensures few { OnOk result (length queue.old.visited.keys ≤ max_files → length queue.new.visited.keys ≤ max_files) }
     ensures same { T.tells → T.files tree.new ≡ T.files tree.old }
     ensures list { T.tells → T.changes tree.new ≡ T.changes tree.old }
     ensures later { T.faults tree.old ≤ T.faults tree.new }

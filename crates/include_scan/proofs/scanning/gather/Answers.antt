@@ -3,7 +3,7 @@ use Rattle.object_name.specs.Name.{max_size}
 use Rattle.thunk_codec.specs.Files.{Files}
 use Rattle.text_lines.specs.Lines.{lines_of}
 use Rattle.object_name.proofs.PublicLaws.{tries-trans}
-use Rattle.include_scan.specs.Scanning.{after_lines, gathered}
+use Rattle.include_scan.specs.Scanning.{after_lines, gathered, max_files}
 use Rattle.include_scan.specs.Queue.{Leaves, Visits, Waits}
 use Rattle.include_scan.proofs.GatheredFileByFile.{gathered_none, gathered_one, gathered_fault}
 use Rattle.include_scan.proofs.QueueKeepsWaiting.{leaves_fault}
@@ -44,6 +44,7 @@ files-preserved g c = record {
             c.in-Some.ensures.kept visited.0),
         visited.1,
       );
+  few = λ few. c.in_ok-visit_lines.ensures.few (subst (λ keys. length keys ≤ max_files) (sym (ap (λ visited. visited.keys) c.in-Some.ensures.kept)) (c.files.invariant.few few));
   keeps = record {
     same = λ tells. c.in_ok-visit_lines.ensures.same tells ∙ c.files.invariant.keeps.same tells;
     list = λ tells. c.in_ok-visit_lines.ensures.list tells ∙ c.files.invariant.keeps.list tells;

@@ -32,6 +32,7 @@ lines-preserved-in_default-asked g c = record {
       );
   counted = counted_on (g.T.Tree.files c.args.tree.now) c.args.folders.now c.args.path.now c.args.bytes.now c.lines.rest.now c.in-Some.line.now c.in-Some.after.now c.lines.number c.in-Some.ensures
       c.saturating_add-number.result c.saturating_add-number.ensures c.lines.invariant.counted;
+  few = c.lines.invariant.few;
   keeps = c.lines.invariant.keeps;
 }
 
@@ -53,6 +54,7 @@ lines-preserved g c = record {
       );
   counted = counted_on (g.T.Tree.files c.args.tree.now) c.args.folders.now c.args.path.now c.args.bytes.now c.lines.rest.now c.in-Some.line.now c.in-Some.after.now c.lines.number c.in-Some.ensures
       c.saturating_add-number.result c.saturating_add-number.ensures c.lines.invariant.counted;
+  few = λ few. c.in_ok-visit_target.ensures.few (c.lines.invariant.few few);
   keeps = record {
     same = λ tells. c.in_ok-visit_target.ensures.same tells ∙ c.lines.invariant.keeps.same tells;
     list = λ tells. c.in_ok-visit_target.ensures.list tells ∙ c.lines.invariant.keeps.list tells;
