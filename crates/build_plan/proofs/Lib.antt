@@ -1,0 +1,14 @@
+pub mod KnownPaths
+pub mod NumbersRise
+pub mod StagesFit
+pub mod MemoryStops
+pub mod PublicLaws
+pub mod WritesGrow
+pub mod WorkGoesOn
+pub mod CountsAddUp
+pub mod ObjectIsStored
+pub mod InputsInOrder
+pub mod FilesAreChanged
+pub mod PlanIsDone
+pub mod FilesAreFound
+pub mod StepsInOrder

@@ -1,0 +1,9 @@
+pub mod Doing
+pub mod Way
+pub mod Gathered
+pub mod Symbolic
+pub mod Creating
+pub mod Fitting
+pub mod Applying
+pub mod Numbered
+pub mod StepContracts
