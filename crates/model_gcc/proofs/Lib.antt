@@ -1,2 +1,12 @@
 pub mod BytesAreCounted
 pub mod RefusalsStay
+pub mod KnownPaths
+pub mod StepsAreFew
+pub mod FoldersAreShort
+pub mod SlotsAreSound
+pub mod PlansAreSmall
+pub mod NumbersInOrder
+pub mod PlansFit
+pub mod ScansOfCpp
+pub mod StepsOfPlans
+pub mod PublicLaws

@@ -2,6 +2,9 @@ pub mod WordClass
 pub mod Values
 pub mod Slots
 pub mod Checks
-pub mod Steps
 pub mod Plan
-pub mod Finds
+pub mod Operands
+pub mod Outputs
+pub mod Libraries
+pub mod Stages
+pub mod PlanOf

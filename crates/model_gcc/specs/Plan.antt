@@ -1,13 +1,12 @@
 -- What a command line of gcc asks for, or the first refusal of a word.
 use Rattle.std.specs.Prelude.{ℕ, List, not, is_some, unwrap_or, Result, Ok}
-use Rattle.tool_text.specs.Trying.{◌>>=◌}
-use Rattle.model_gcc.specs.declared.fault.Reason.TheVariants.{NoValue, OneFile, NoInput, NeedsOutput, WrongKind, TooMany}
-use Rattle.model_gcc.specs.declared.fault.PlanFault.{PlanFault}
+use Rattle.file_tree.specs.declared.model_fault.Reason.TheVariants.{NoValue, OneFile, NoInput, NeedsOutput, WrongKind, TooMany}
+use Rattle.file_tree.specs.declared.model_fault.PlanFault.{PlanFault}
 use Rattle.model_gcc.specs.declared.gcc_plan.Stop.{Stop}
 use Rattle.model_gcc.specs.declared.gcc_plan.Stop.TheVariants.{Link}
 use Rattle.model_gcc.specs.declared.gcc_plan.GccPlan.{GccPlan}
 use Rattle.model_gcc.specs.declared.slots.Slots.{Slots}
-use Rattle.model_gcc.specs.Steps.{◌>>◌, refuse_if, refuse_at}
+use Rattle.file_tree.specs.Planning.{◌>>=◌, ◌>>◌, refuse_if, refuse_at}
 use Rattle.model_gcc.specs.Values.{after_first}
 use Rattle.model_gcc.specs.Slots.{no_words, with_words}
 use Rattle.model_gcc.specs.Checks.{has_file, needs_output, shared_output, first_unfit, is_within}

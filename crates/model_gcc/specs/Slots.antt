@@ -1,12 +1,12 @@
 -- What the words of gcc say, one after another, or the first of them that is refused.
-use Rattle.std.specs.Prelude.{ℕ, ◌+◌, ◌==◌, min, List, [], ◌∷◌, ◌++◌, bytes_eq, Option, Some, None, Result, Ok, Err, codes, if◌then◌else◌}
-use Rattle.tool_text.specs.Trying.{◌>>=◌}
+use Rattle.std.specs.Prelude.{ℕ, ◌==◌, List, [], ◌∷◌, ◌++◌, bytes_eq, Option, Some, None, Result, Ok, Err, codes, if◌then◌else◌}
+use Rattle.file_tree.specs.Planning.{◌>>=◌, place_after}
 use Rattle.thunk_codec.specs.Path.{path_of}
 use Rattle.thunk_codec.specs.Folder.{folder_of}
-use Rattle.model_gcc.specs.declared.fault.Reason.{Reason}
-use Rattle.model_gcc.specs.declared.fault.Reason.TheVariants.{Unknown, BadValue, TwoStages}
-use Rattle.model_gcc.specs.declared.fault.PlanFault.{PlanFault}
-use Rattle.model_gcc.specs.declared.fault.PlanFault.TheVariants.{Refused}
+use Rattle.file_tree.specs.declared.model_fault.Reason.{Reason}
+use Rattle.file_tree.specs.declared.model_fault.Reason.TheVariants.{Unknown, BadValue, TwoStages}
+use Rattle.file_tree.specs.declared.model_fault.PlanFault.{PlanFault}
+use Rattle.file_tree.specs.declared.model_fault.PlanFault.TheVariants.{Refused}
 use Rattle.model_gcc.specs.declared.gcc_plan.Stop.{Stop}
 use Rattle.model_gcc.specs.declared.gcc_plan.Stop.TheVariants.{Preprocess, Compile, Assemble, Link}
 use Rattle.model_gcc.specs.declared.gcc_plan.Operand.{Operand}
@@ -38,10 +38,6 @@ no_words = record {
   operands = [];
   places = [];
 }
-
--- the place after one; a place that would pass 4,294,967,295 is that
-abbrev pub place_after : ℕ → ℕ
-place_after at = min (at + 1) 4294967295
 
 -- the last word is refused
 abbrev pub refusal : Slots → Reason → PlanFault

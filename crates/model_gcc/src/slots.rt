@@ -1,15 +1,15 @@
 //! What the words say, one after another.
 
 ghost use Rattle.std.specs.Prelude.{◌≡◌, Some, Ok};
-ghost use Rattle.model_gcc.specs.Slots.{no_words, place_after, refusal, stages_to, with_operand, with_value, with_option, with_output, with_stop, with_passed_word, with_file, with_class, with_word, with_words};
-ghost use Rattle.model_gcc.specs.Finds.{Finds};
+ghost use Rattle.model_gcc.specs.Slots.{no_words, refusal, stages_to, with_operand, with_value, with_option, with_output, with_stop, with_passed_word, with_file, with_class, with_word, with_words};
+ghost use Rattle.file_tree.specs.Planning.{Finds, place_after};
 
-use crate::fault::{PlanFault, Reason, refused_at};
 use crate::gcc_plan::{Operand, Stop};
 use crate::values::{
     after_option, definition, joined, library_name, macro_name, operand_at, passed_word,
 };
 use crate::word_class::{Key, WordClass, class_of};
+use file_tree::{PlanFault, Reason};
 use object_name::{Bytes, Many};
 use std::alloc::Global;
 use thunk_codec::{Folder, Path};
@@ -77,7 +77,10 @@ impl Slots {
     pub(crate) fn refused(&self, reason: Reason) -> PlanFault
         ensures { result ≡ refusal self.now reason }
     {
-        refused_at(self.at, reason)
+        PlanFault::Refused {
+            at: self.at,
+            reason,
+        }
     }
 
     /// With an operand, which the last word is or holds.
