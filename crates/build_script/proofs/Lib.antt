@@ -1,0 +1,17 @@
+pub mod RefusedBytes
+pub mod NothingDone
+pub mod SymbolicAdds
+pub mod ScriptAdds
+pub mod LinesJoin
+pub mod LineInferred
+pub mod LinesSoFar
+pub mod ScannedAlike
+pub mod CppOverScanned
+pub mod StepsOfCommands
+pub mod CallsCounted
+pub mod JobsAdded
+pub mod BytesAreFound
+pub mod ToolsAreRun
+pub mod PlanAtOnce
+pub mod LinesInOrder
+pub mod PublicLaws

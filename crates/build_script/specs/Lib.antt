@@ -1,0 +1,15 @@
+pub mod Moves
+pub mod LineWords
+pub mod ScriptLines
+pub mod Pieces
+pub mod Commands
+pub mod LineCommand
+pub mod AtOnce
+pub mod WholeTree
+pub mod Builds
+pub mod Script
+pub mod FoundCommands
+pub mod LineFaults
+pub mod Inferring
+pub mod Building
+pub mod WorkAtOnce
