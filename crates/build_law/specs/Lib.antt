@@ -1,0 +1,6 @@
+pub mod Suiting
+pub mod Jobs
+pub mod Denoted
+pub mod Agreement
+pub mod CardBuilds
+pub mod ScriptsAgree
