@@ -4,7 +4,7 @@ use Rattle.std.specs.Prelude.{IsSome}
 use Rattle.object_name.specs.Name.{ObjectName}
 use Rattle.blob_store.specs.Store.{Store, Contents, Write, held}
 use Rattle.object_name.specs.Causes.{TriesAtMost}
-use Rattle.file_tree.specs.Files.{Files, Filed, after_change, changed, filed_in, MayChange}
+use Rattle.file_tree.specs.Files.{Files, Filed, after_change, changed, all_changed, filed_in, ChangesPrefix}
 use Rattle.file_tree.specs.declared.change.Change.{Change}
 use Rattle.file_tree.specs.declared.change.Change.TheVariants.{Written}
 use Rattle.file_tree.specs.declared.item.Item.{Item}
@@ -12,26 +12,11 @@ use Rattle.need_eval.specs.MetObjects.{AreHeld}
 use Rattle.gg_cli.specs.declared.fault.FilingFault.{FilingFault}
 use Rattle.gg_cli.specs.declared.fault.FilingFault.TheVariants.{Missing, StoreFailed, FileFailed, Memory}
 use Rattle.gg_cli.specs.ValueFiles.{item_filed, filed}
-use Rattle.gg_cli.specs.Comes.{ChangesPrefix, all_changed}
 use Rattle.gg_cli.specs.StepContracts.{FilesValues, FilingCause}
-use Rattle.gg_cli.proofs.ListsGrow.{ListsMade-after}
+use Rattle.object_name.proofs.PublicLaws.{ListsMade-after}
+use Rattle.file_tree.proofs.PublicLaws.{changed-append, all_changed-append}
 
 -- ---- one file
-
--- a change that failed was made or was not: a prefix of one change, and no more of them is in the list
-pub may_be_filed : (path bytes : List ℕ) (old new : Filed) → MayChange old.files (Written path bytes) new.files → new.changes ≡ old.changes → ChangesPrefix (Written path bytes ∷ []) old new
-may_be_filed path bytes old new (inl same) list = record {
-  prefix = [];
-  is_prefix = record { rest = Written path bytes ∷ []; whole = refl };
-  files = same;
-  listed = inl (list ∙ sym (append-nil old.changes));
-}
-may_be_filed path bytes old new (inr made) list = record {
-  prefix = Written path bytes ∷ [];
-  is_prefix = record { rest = []; whole = refl };
-  files = made;
-  listed = inr (record { front = []; last = Written path bytes; split = refl; list = list ∙ sym (append-nil old.changes) });
-}
 
 -- one that was answered Ok
 pub is_filed : (path bytes : List ℕ) (old new : Filed) → new.files ≡ after_change old.files (Written path bytes) → new.changes ≡ old.changes ++ Written path bytes ∷ []
@@ -39,13 +24,6 @@ pub is_filed : (path bytes : List ℕ) (old new : Filed) → new.files ≡ after
 is_filed path bytes old new made listed = λ i. record { files = made i; changes = listed i }
 
 -- ---- some files, and others after them
-
-changed-append : (files : Files) (first later : List Change) → changed files (first ++ later) ≡ changed (changed files first) later
-changed-append files [] later = refl
-changed-append files (change ∷ first) later = changed-append (after_change files change) first later
-
-all_changed-append : (filed : Filed) (first later : List Change) → all_changed filed (first ++ later) ≡ all_changed (all_changed filed first) later
-all_changed-append filed first later = λ i. record { files = changed-append filed.files first later i; changes = sym (append_assoc filed.changes first later) i }
 
 -- a part of the changes is made, and what is left of them isn't
 pub record HasFiled (all left : List Change) (before now : Filed) : Type 0 where

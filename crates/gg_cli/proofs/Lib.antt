@@ -3,9 +3,13 @@ pub mod PiecesJoin
 pub mod LinesAreWrittenInOrder
 pub mod WordsAreReadInOrder
 pub mod FilesAreWrittenInOrder
-pub mod ListsGrow
 pub mod EndsArePrefixes
 pub mod PartsCauseTheWhole
 pub mod StepsMakeTheAnswer
 pub mod LinesFitTheStatus
 pub mod TriesAddUp
+pub mod RecipesAreFit
+pub mod WorkMakesTheAnswer
+pub mod ReadingMakesTheAnswer
+pub mod PartsAreReadInOrder
+pub mod DescriptionGrows

@@ -10,13 +10,14 @@ use Rattle.need_eval.specs.declared.fault.Refusal.TheVariants as refusals
 use Rattle.gg_cli.specs.declared.fault.TopFault.{TopFault}
 use Rattle.gg_cli.specs.declared.fault.TopFault.TheVariants as tops
 use Rattle.gg_cli.specs.declared.status.Status.{Status}
-use Rattle.gg_cli.specs.declared.words.Command.{Command}
+use Rattle.gg_cli.specs.declared.command.Command.{Command}
 use Rattle.gg_cli.specs.Words.{command_of}
 use Rattle.gg_cli.specs.Answer.{Answer, answer_of, answer_of_command}
 use Rattle.gg_cli.specs.Endings.{ending_of, line_of}
 use Rattle.gg_cli.specs.Comes.{Made, Comes, Says, SaysUntold, SaysWhole, SaysPrefix, status_line}
 use Rattle.gg_cli.specs.StepContracts.{EndsAt, Speaks, only_store}
-use Rattle.gg_cli.proofs.ListsGrow.{all_written-none, all_changed-none}
+use Rattle.blob_store.proofs.PublicLaws.{all_written-none}
+use Rattle.file_tree.proofs.PublicLaws.{all_changed-none}
 use Rattle.gg_cli.proofs.EndsArePrefixes.{AppendsPrefix-whole, Comes-memory}
 
 -- ---- the answer, by the words

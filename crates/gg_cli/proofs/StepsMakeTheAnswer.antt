@@ -5,11 +5,12 @@ use Rattle.std.specs.Io.KnownBytes.{Appends}
 use Rattle.std.proofs.KnownBytes.{Appends-nil}
 use Rattle.object_name.specs.Name.{ObjectName}
 use Rattle.object_name.specs.declared.trouble.Trouble.{Trouble}
+use Rattle.object_name.specs.declared.trouble.Trouble.TheVariants as troubles
 use Rattle.thunk_codec.specs.declared.reference.Ref.{Ref}
 use Rattle.thunk_codec.specs.declared.job.Job.{Job}
 use Rattle.blob_store.specs.Store.{Store, Write, written}
-use Rattle.blob_store.specs.Keeping.{Kept}
-use Rattle.file_tree.specs.Files.{Filed}
+use Rattle.blob_store.specs.Keeping.{Kept, all_written}
+use Rattle.file_tree.specs.Files.{Filed, all_changed, ChangesPrefix}
 use Rattle.file_tree.specs.declared.change.Change.{Change}
 use Rattle.file_tree.specs.WantAnswers.{Answers, WantCause}
 use Rattle.file_tree.specs.declared.item.Item.{Item}
@@ -24,7 +25,8 @@ use Rattle.need_eval.specs.Eval.{State, Ended, Got, Stopped, Stop, Refused, Clas
 use Rattle.need_eval.specs.Evaluation.{values_of, by_function}
 use Rattle.need_eval.specs.declared.evaluating.Values.{Values}
 use Rattle.need_eval.specs.Evaluating.{EvaluatesAll}
-use Rattle.need_eval.specs.WritePrefix.{state_after, ListsMade, ListsAll, StopsPartWay, Yields, StopsWith, Stops}
+use Rattle.object_name.specs.Made.{ListsMade}
+use Rattle.need_eval.specs.WritePrefix.{state_after, ListsAll, StopsPartWay, Yields, StopsWith, Stops}
 use Rattle.need_eval.specs.MetObjects.{AreHeld}
 use Rattle.need_eval.proofs.PublicLaws.{store_is_written, values-held, outputs-begin}
 use Rattle.sandbox_run.specs.Cards.{card_outcome}
@@ -36,11 +38,12 @@ use Rattle.gg_cli.specs.Endings.{ending_of}
 use Rattle.gg_cli.specs.ValueLines.{value_lines}
 use Rattle.gg_cli.specs.ValueFiles.{filed}
 use Rattle.gg_cli.specs.Answer.{done, ended_by, forced, wanted_forced}
-use Rattle.gg_cli.specs.LowerFaults.{IsFaultOf, want_fault, filing_fault}
-use Rattle.gg_cli.specs.Comes.{Made, Counts, MadePrefix, MadeAll, ChangesPrefix, TopCause, all_written, all_changed}
+use Rattle.gg_cli.specs.LowerFaults.{IsFaultOf, want_fault, filing_fault, output_fault}
+use Rattle.gg_cli.specs.Comes.{Made, Counts, MadePrefix, MadeAll, TopCause}
 use Rattle.gg_cli.specs.StepContracts.{EndsAt, Ends, HasValues, HandsOut, FilesValues, FilingCause, only_store}
 use Rattle.gg_cli.specs.Writing.{Writes}
-use Rattle.gg_cli.proofs.ListsGrow.{all_written-none, all_changed-none}
+use Rattle.blob_store.proofs.PublicLaws.{all_written-none}
+use Rattle.file_tree.proofs.PublicLaws.{all_changed-none}
 
 -- ---- evaluation
 
@@ -139,14 +142,9 @@ module _ (writes : List Write) (text : List ℕ) (before after : Kept) (made : a
   printed_done v h = record { is_status = refl; all = record { kept = made; files = all }; text = h.whole }
 
   -- or a prefix of it
-  pub printed_failed : (T : Type 0) (e : Trouble) → Writes {T = T} text b c f g (Err e) → EndsAt (done writes changes text) (handed before after files_before files_after b c) tops.OutputFailed
-  printed_failed T e h = record { comes = record { done = refl; prints = record { all = record { kept = made; files = all }; text = h.prefix } }; line = refl }
-
-  pub printed_part : (T : Type 0) (e : Trouble) → Writes {T = T} text b c f g (Err e) → EndsAt (done writes changes text) (handed before after files_before files_after b c) tops.Memory
-  printed_part T e h = record {
-    comes = inr (record { all = record { kept = made; files = all }; text = h.prefix });
-    line = refl;
-  }
+  pub printed_ends : (T : Type 0) (e : Trouble) → Writes {T = T} text b c f g (Err e) → EndsAt (done writes changes text) (handed before after files_before files_after b c) (output_fault e)
+  printed_ends T troubles.Failed h = record { comes = record { done = refl; prints = record { all = record { kept = made; files = all }; text = h.prefix } }; line = refl }
+  printed_ends T troubles.Memory h = record { comes = inr (record { all = record { kept = made; files = all }; text = h.prefix }); line = refl }
 
 -- ---- the items
 

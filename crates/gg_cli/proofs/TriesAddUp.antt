@@ -9,7 +9,7 @@ use Rattle.need_eval.specs.declared.fault.EvalFault.{EvalFault}
 use Rattle.need_eval.specs.declared.fault.EvalFault.TheVariants as faults
 use Rattle.need_eval.specs.StepContracts.{failures_of}
 use Rattle.gg_cli.specs.declared.fault.TopFault.{TopFault}
-use Rattle.gg_cli.specs.declared.fault.TopFault.TheVariants.{Usage, FileRefused, Refused, Clash, StoreFailed, FileFailed, OutputFailed, Memory}
+use Rattle.gg_cli.specs.declared.fault.TopFault.TheVariants.{Usage, FileRefused, Refused, NotModelled, Clash, StoreFailed, FileFailed, OutputFailed, Memory}
 use Rattle.gg_cli.specs.declared.fault.FilingFault.{FilingFault}
 use Rattle.gg_cli.specs.declared.fault.FilingFault.TheVariants as filings
 use Rattle.gg_cli.specs.declared.status.Status.{Status}
@@ -47,6 +47,7 @@ pub kept-unfiled : (T : Type 0) (retries before after : ℕ) (fault : TopFault) 
 kept-unfiled T retries before after Usage cause = refl
 kept-unfiled T retries before after (FileRefused refusal) cause = refl
 kept-unfiled T retries before after (Refused refusal) cause = refl
+kept-unfiled T retries before after (NotModelled word reason) cause = refl
 kept-unfiled T retries before after (Clash name) cause = refl
 kept-unfiled T retries before after StoreFailed cause = refl
 kept-unfiled T retries before after FileFailed cause = absurd (omega (arith, cause))
@@ -68,6 +69,7 @@ kept_within : (fault : TopFault) → kept_faults_of fault ≤ kept_failures (end
 kept_within Usage = omega arith
 kept_within (FileRefused refusal) = omega arith
 kept_within (Refused refusal) = omega arith
+kept_within (NotModelled word reason) = omega arith
 kept_within (Clash name) = omega arith
 kept_within StoreFailed = omega arith
 kept_within FileFailed = omega arith
@@ -78,6 +80,7 @@ kept_one : (fault : TopFault) → kept_faults_of fault ≤ 1
 kept_one Usage = omega arith
 kept_one (FileRefused refusal) = omega arith
 kept_one (Refused refusal) = omega arith
+kept_one (NotModelled word reason) = omega arith
 kept_one (Clash name) = omega arith
 kept_one StoreFailed = omega arith
 kept_one FileFailed = omega arith
@@ -88,6 +91,7 @@ file_within : (fault : TopFault) → file_faults_of fault ≤ file_failures (end
 file_within Usage = omega arith
 file_within (FileRefused refusal) = omega arith
 file_within (Refused refusal) = omega arith
+file_within (NotModelled word reason) = omega arith
 file_within (Clash name) = omega arith
 file_within StoreFailed = omega arith
 file_within FileFailed = omega arith
@@ -98,6 +102,7 @@ file_one : (fault : TopFault) → file_faults_of fault ≤ 1
 file_one Usage = omega arith
 file_one (FileRefused refusal) = omega arith
 file_one (Refused refusal) = omega arith
+file_one (NotModelled word reason) = omega arith
 file_one (Clash name) = omega arith
 file_one StoreFailed = omega arith
 file_one FileFailed = omega arith

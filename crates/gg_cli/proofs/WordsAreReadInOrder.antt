@@ -9,10 +9,11 @@ use Rattle.thunk_codec.specs.Path.{path_of}
 use Rattle.thunk_codec.specs.Reference.{ref_of}
 use Rattle.file_tree.specs.declared.item.Item.{Item}
 use Rattle.file_tree.specs.declared.item.Item.TheVariants.{File, Bare}
-use Rattle.gg_cli.specs.declared.words.WordFault.{WordFault}
-use Rattle.gg_cli.specs.declared.words.WordFault.TheVariants.{Usage, Memory}
-use Rattle.gg_cli.specs.declared.words.Options.{Options}
-use Rattle.gg_cli.specs.Words.{item_by, item_of, items_in, with_option, options_of}
+use Rattle.gg_cli.specs.declared.word_fault.WordFault.{WordFault}
+use Rattle.gg_cli.specs.declared.word_fault.WordFault.TheVariants.{Usage, Memory}
+use Rattle.gg_cli.specs.declared.force_words.Options.{Options}
+use Rattle.gg_cli.specs.ForceWords.{with_option, options_of}
+use Rattle.gg_cli.specs.ItemWords.{item_by, item_of, items_in}
 use Rattle.gg_cli.specs.Reading.{Refuses, Finds}
 
 -- ---- one item

@@ -1,13 +1,10 @@
 -- When each status comes, and what it leaves, by the answer of the definition.
-use Rattle.std.specs.Prelude.{◌≡◌, ◌⊎◌, ℕ, List, [], ◌++◌, Option}
+use Rattle.std.specs.Prelude.{◌≡◌, ◌⊎◌, ℕ, List, [], Option}
 use Rattle.std.specs.Io.KnownBytes.{Appends}
 use Rattle.object_name.specs.Causes.{Rose, RoseBy}
-use Rattle.object_name.specs.Streams.{IsPrefix, AppendsPrefix}
-use Rattle.blob_store.specs.Store.{Write, written}
-use Rattle.blob_store.specs.Keeping.{Kept}
-use Rattle.file_tree.specs.Files.{Filed, changed}
-use Rattle.file_tree.specs.declared.change.Change.{Change}
-use Rattle.need_eval.specs.WritePrefix.{ListsMade}
+use Rattle.object_name.specs.Streams.{AppendsPrefix}
+use Rattle.blob_store.specs.Keeping.{Kept, WritesPrefix, all_written}
+use Rattle.file_tree.specs.Files.{Filed, ChangesPrefix, all_changed}
 use Rattle.gg_cli.specs.declared.status.Status.{Status}
 use Rattle.gg_cli.specs.declared.status.Status.TheVariants.{Done, Usage, StoreFault, FileFault, ByteFault, Memory}
 use Rattle.gg_cli.specs.declared.fault.TopFault.TheVariants as faults
@@ -42,28 +39,6 @@ around kept files out keeper keeper_after tree tree_after sink sink_after = reco
   out_before = out sink;
   out_after = out sink_after;
 }
-
--- after these writes, each of which was answered Ok, once and in order
-abbrev pub all_written : Kept → List Write → Kept
-all_written before writes = record { store = written before.store writes; writes = before.writes ++ writes }
-
--- after these changes, each of which was answered Ok, once and in order
-abbrev pub all_changed : Filed → List Change → Filed
-all_changed before changes = record { files = changed before.files changes; changes = before.changes ++ changes }
-
--- a prefix of these writes was made, each once and in order: the last of them may have failed
-pub record WritesPrefix (writes : List Write) (before after : Kept) : Type 0 where
-  pub prefix : List Write
-  pub is_prefix : IsPrefix prefix writes
-  pub store : after.store ≡ written before.store prefix
-  pub listed : ListsMade before.writes prefix after.writes
-
--- a prefix of these changes was made, each once and in order: the last of them may have failed
-pub record ChangesPrefix (changes : List Change) (before after : Filed) : Type 0 where
-  pub prefix : List Change
-  pub is_prefix : IsPrefix prefix changes
-  pub files : after.files ≡ changed before.files prefix
-  pub listed : ListsMade before.changes prefix after.changes
 
 -- a prefix of the answer's writes was made, and no file was changed
 pub record MadeWrites (a : Answer) (m : Made) : Type 0 where

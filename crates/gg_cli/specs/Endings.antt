@@ -1,13 +1,15 @@
 -- How a command line ends: the exit status, and the line of each fault. A new status is a line of `code_of` and one of `ending_of`,
--- a new refusal one of `refusal_ending` or `file_text`.
+-- a new refusal one of `refusal_ending`, `file_text` or `reason_text`.
 use Rattle.std.specs.Prelude.{ℕ, List, [], ◌∷◌, ◌++◌, codes, decimal}
 use Rattle.object_name.specs.Name.{spelling}
+use Rattle.file_tree.specs.declared.model_fault.Reason.{Reason}
+use Rattle.file_tree.specs.declared.model_fault.Reason.TheVariants as reasons
 use Rattle.file_tree.specs.declared.refusal.FileRefusal.{FileRefusal}
 use Rattle.file_tree.specs.declared.refusal.FileRefusal.TheVariants as files
 use Rattle.need_eval.specs.declared.fault.Refusal.{Refusal}
 use Rattle.need_eval.specs.declared.fault.Refusal.TheVariants as refusals
 use Rattle.gg_cli.specs.declared.fault.TopFault.{TopFault}
-use Rattle.gg_cli.specs.declared.fault.TopFault.TheVariants.{Usage, FileRefused, Refused, Clash, StoreFailed, FileFailed, OutputFailed, Memory}
+use Rattle.gg_cli.specs.declared.fault.TopFault.TheVariants.{Usage, FileRefused, Refused, NotModelled, Clash, StoreFailed, FileFailed, OutputFailed, Memory}
 use Rattle.gg_cli.specs.declared.status.Status.{Status}
 use Rattle.gg_cli.specs.declared.status.Status.TheVariants as statuses
 
@@ -22,6 +24,7 @@ code_of statuses.NoOutput = 5
 code_of statuses.Spent = 6
 code_of statuses.TooBig = 7
 code_of statuses.FileRefused = 8
+code_of statuses.NotModelled = 9
 code_of statuses.Clash = 10
 code_of statuses.StoreFault = 12
 code_of statuses.FileFault = 13
@@ -56,11 +59,26 @@ file_text (files.Generated path) = codes "generated: " ++ path
 file_text (files.ThunkText path) = codes "thunk text: " ++ path
 file_text (files.Computed path line) = codes "computed include: " ++ (path ++ (codes " line " ++ decimal line))
 
+-- why a word is refused
+abbrev pub reason_text : Reason → List ℕ
+reason_text reasons.Unknown = codes "not modelled"
+reason_text reasons.NoValue = codes "no value"
+reason_text reasons.BadValue = codes "bad value"
+reason_text reasons.TwoStages = codes "two stages"
+reason_text reasons.OneFile = codes "one file only"
+reason_text reasons.NoInput = codes "no input"
+reason_text reasons.NeedsOutput = codes "needs -o"
+reason_text reasons.WrongKind = codes "wrong kind of file"
+reason_text reasons.TooMany = codes "too many files"
+reason_text reasons.Shell = codes "shell syntax"
+reason_text reasons.Same = codes "same file"
+
 -- each fault
 abbrev pub ending_of : TopFault → Ending
 ending_of Usage = ends statuses.Usage (codes "usage")
 ending_of (FileRefused refusal) = ends statuses.FileRefused (file_text refusal)
 ending_of (Refused refusal) = refusal_ending refusal
+ending_of (NotModelled word reason) = ends statuses.NotModelled (word ++ (codes ": " ++ reason_text reason))
 ending_of (Clash name) = ends statuses.Clash (codes "two objects named " ++ spelling name)
 ending_of StoreFailed = ends statuses.StoreFault (codes "store fault")
 ending_of FileFailed = ends statuses.FileFault (codes "file fault")

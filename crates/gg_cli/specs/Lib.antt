@@ -1,9 +1,13 @@
+pub mod ItemWords
+pub mod ForceWords
+pub mod CreateWords
 pub mod Words
 pub mod Reading
 pub mod Endings
 pub mod Pieces
 pub mod ValueLines
 pub mod ValueFiles
+pub mod Description
 pub mod Answer
 pub mod Comes
 pub mod LowerFaults

@@ -1,14 +1,22 @@
 -- The faults of the crates below, as faults of a command line.
-use Rattle.std.specs.Prelude.{◌≡◌}
+use Rattle.std.specs.Prelude.{◌≡◌, ◌⊎◌, ℕ, List}
+use Rattle.object_name.specs.declared.trouble.Trouble.{Trouble}
+use Rattle.object_name.specs.declared.trouble.Trouble.TheVariants as troubles
+use Rattle.file_tree.specs.declared.model_fault.PlanFault.{PlanFault}
+use Rattle.file_tree.specs.declared.model_fault.PlanFault.TheVariants as plans
 use Rattle.need_eval.specs.declared.fault.EvalFault.{EvalFault}
 use Rattle.need_eval.specs.declared.fault.EvalFault.TheVariants as faults
+use Rattle.file_tree.specs.declared.model_fault.ApplyFault.{ApplyFault}
+use Rattle.file_tree.specs.declared.model_fault.ApplyFault.TheVariants as applies
+use Rattle.file_tree.specs.declared.model_fault.Reason.{Reason}
 use Rattle.file_tree.specs.declared.refusal.WantFault.{WantFault}
 use Rattle.file_tree.specs.declared.refusal.WantFault.TheVariants as wants
 use Rattle.need_eval.specs.declared.fault.Refusal.TheVariants as refusals
 use Rattle.gg_cli.specs.declared.fault.TopFault.{TopFault}
-use Rattle.gg_cli.specs.declared.fault.TopFault.TheVariants.{FileRefused, Refused, Clash, StoreFailed, FileFailed, Memory}
+use Rattle.gg_cli.specs.declared.fault.TopFault.TheVariants.{FileRefused, Refused, NotModelled, Clash, StoreFailed, FileFailed, OutputFailed, Memory}
 use Rattle.gg_cli.specs.declared.fault.FilingFault.{FilingFault}
 use Rattle.gg_cli.specs.declared.fault.FilingFault.TheVariants as filings
+use Rattle.gg_cli.specs.Answer.{word_at}
 
 -- the fault that reading the wanted items ends with
 abbrev pub want_fault : WantFault → TopFault
@@ -30,3 +38,26 @@ filing_fault (filings.Missing name) = Refused (refusals.Missing name)
 filing_fault filings.StoreFailed = StoreFailed
 filing_fault filings.FileFailed = FileFailed
 filing_fault filings.Memory = Memory
+
+-- the fault of an output that is in trouble
+abbrev pub output_fault : Trouble → TopFault
+output_fault troubles.Failed = OutputFailed
+output_fault troubles.Memory = Memory
+
+-- a word is refused, or memory ran out for a copy of it
+abbrev pub IsRefusedWord : List ℕ → Reason → TopFault → Type 0
+IsRefusedWord word reason fault = (fault ≡ NotModelled word reason) ⊎ (fault ≡ Memory)
+
+-- the fault that work of a command whose own word is this ends with
+abbrev pub IsWorkFault : List ℕ → ApplyFault → TopFault → Type 0
+IsWorkFault word (applies.Refused refusal) fault = fault ≡ FileRefused refusal
+IsWorkFault word (applies.Reason reason) fault = IsRefusedWord word reason fault
+IsWorkFault word (applies.Clash name found fresh) fault = fault ≡ Clash name
+IsWorkFault word applies.StoreFailed fault = fault ≡ StoreFailed
+IsWorkFault word applies.FileFailed fault = fault ≡ FileFailed
+IsWorkFault word applies.Memory fault = fault ≡ Memory
+
+-- the fault of words that have no plan
+abbrev pub IsPlanFault : List (List ℕ) → PlanFault → TopFault → Type 0
+IsPlanFault words (plans.Refused at reason) fault = IsRefusedWord (word_at words at) reason fault
+IsPlanFault words plans.Memory fault = fault ≡ Memory

@@ -1,7 +1,7 @@
 -- What reading words answers, against the definition.
 use Rattle.std.specs.Prelude.{◌≡◌, Option, Some, None, Result, Ok, Err}
-use Rattle.gg_cli.specs.declared.words.WordFault.{WordFault}
-use Rattle.gg_cli.specs.declared.words.WordFault.TheVariants.{Usage, Memory}
+use Rattle.gg_cli.specs.declared.word_fault.WordFault.{WordFault}
+use Rattle.gg_cli.specs.declared.word_fault.WordFault.TheVariants.{Usage, Memory}
 
 -- a refusal of the words comes only where the definition finds nothing
 abbrev pub Refuses : {T : Type 0} → WordFault → Option T → Type 0

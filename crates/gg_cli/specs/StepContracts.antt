@@ -1,13 +1,16 @@
 -- What the steps of a command line promise: it ends done or at a fault, and then the line of the fault is said.
-use Rattle.std.specs.Prelude.{◌≡◌, ◌⊎◌, ℕ, List, Option, Result, Ok, Err}
+use Rattle.std.specs.Prelude.{◌≡◌, ◌⊎◌, ℕ, List, [], Option, Some, Result, Ok, Err}
 use Rattle.object_name.specs.Name.{ObjectName}
 use Rattle.object_name.specs.Causes.{RoseBy}
 use Rattle.object_name.specs.Streams.{AppendsPrefix}
-use Rattle.blob_store.specs.Store.{Write}
-use Rattle.blob_store.specs.Keeping.{Kept}
-use Rattle.file_tree.specs.Files.{Filed}
+use Rattle.blob_store.specs.Store.{Contents, Write, held}
+use Rattle.blob_store.specs.Keeping.{Kept, all_written}
+use Rattle.file_tree.specs.Files.{Filed, ChangesPrefix, all_changed}
 use Rattle.file_tree.specs.declared.change.Change.{Change}
 use Rattle.file_tree.specs.declared.item.Item.{Item}
+use Rattle.thunk_codec.specs.Reading.{thunk_of}
+use Rattle.thunk_codec.specs.Thunk.{Parts}
+use Rattle.build_plan.specs.Applying.{Sides}
 use Rattle.need_eval.specs.Eval.{State, Ended, Got}
 use Rattle.need_eval.specs.MetObjects.{AreHeld}
 use Rattle.gg_cli.specs.declared.fault.TopFault.{TopFault}
@@ -20,8 +23,8 @@ use Rattle.gg_cli.specs.Endings.{ending_of, line_of}
 use Rattle.gg_cli.specs.LowerFaults.{filing_fault}
 use Rattle.gg_cli.specs.ValueFiles.{filed}
 use Rattle.gg_cli.specs.ValueLines.{value_lines}
-use Rattle.gg_cli.specs.Answer.{Answer, done, forced}
-use Rattle.gg_cli.specs.Comes.{Made, Counts, Comes, SaysWhole, TopCause, ChangesPrefix, all_written, all_changed, status_line}
+use Rattle.gg_cli.specs.Answer.{Answer, bytes_described, done, ended_by, forced, thunk_described}
+use Rattle.gg_cli.specs.Comes.{Made, Counts, Comes, SaysWhole, TopCause, status_line}
 
 -- the status of the fault comes, and its line is that of the status
 pub record EndsAt (a : Answer) (m : Made) (fault : TopFault) : Type 0 where
@@ -108,3 +111,46 @@ abbrev pub Speaks : TopFault → Status → Option (List ℕ) → Option (List �
 Speaks fault status before after faults_before faults_after =
     ((status ≡ (ending_of fault).status) × SaysWhole (line_of fault) before after faults_before faults_after)
     ⊎ ((status ≡ Memory) × AppendsPrefix before after (line_of fault))
+
+-- ---- work
+
+-- what the keeper and the tree tell around work, which prints nothing
+abbrev pub work_made : Option (List ℕ) → Sides → Made
+work_made told s = record {
+  kept_before = s.kept_before;
+  kept_after = s.kept_after;
+  files_before = s.files_before;
+  files_after = s.files_after;
+  out_before = told;
+  out_after = told;
+}
+
+-- no count but the keeper's and the tree's may have risen
+abbrev pub work_counts : ℕ → ℕ → ℕ → ℕ → Counts
+work_counts kept_before kept_after files_before files_after =
+    record { kept_before = kept_before; kept_after = kept_after; files_before = files_before; files_after = files_after; out_before = 0; out_after = 0 }
+
+-- ---- reading
+
+-- a fault that ends an answer before anything is done: a refusal is the answer's
+abbrev pub StopsAt : Answer → TopFault → Type 0
+StopsAt a tops.StoreFailed = Unit {0}
+StopsAt a tops.FileFailed = Unit {0}
+StopsAt a tops.OutputFailed = ⊥
+StopsAt a tops.Memory = Unit {0}
+StopsAt a fault = a ≡ ended_by [] [] fault
+
+-- the bytes that are held under a name, or a fault that ends their description
+abbrev pub ReadsBytes : Contents → ObjectName → Result (List ℕ) TopFault → Type 0
+ReadsBytes objects name (Ok bytes) = held objects name ≡ Some bytes
+ReadsBytes objects name (Err fault) = StopsAt (bytes_described name (held objects name)) fault
+
+-- the thunk whose text some bytes are, or a fault that ends its description
+abbrev pub GivesThunk : ObjectName → List ℕ → Result Parts TopFault → Type 0
+GivesThunk name bytes (Ok thunk) = thunk_of bytes ≡ Some thunk
+GivesThunk name bytes (Err fault) = StopsAt (thunk_described name (thunk_of bytes)) fault
+
+-- the thunk of a name, which is described, or a fault that ends its description
+abbrev pub ReadsThunk : Contents → ObjectName → Result Parts TopFault → Type 0
+ReadsThunk objects name (Ok thunk) = bytes_described name (held objects name) ≡ thunk_described name (Some thunk)
+ReadsThunk objects name (Err fault) = StopsAt (bytes_described name (held objects name)) fault

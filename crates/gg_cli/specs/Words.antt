@@ -1,124 +1,46 @@
--- Command lines, by their words.
-use Rattle.std.specs.Prelude.{ℕ, All, List, [], ◌∷◌, length, nat_le, nat_eq, Option, Some, None, unwrap_or, bytes_eq, codes, if◌then◌else◌}
-use Rattle.std.specs.List.{starts_with}
-use Rattle.object_name.specs.Number.{number_of}
-use Rattle.thunk_codec.specs.declared.reference.Ref.{Ref}
-use Rattle.text_lines.specs.Maybe.{◌>>=◌, ◌>>◌, check}
-use Rattle.thunk_codec.specs.Path.{path_of}
-use Rattle.thunk_codec.specs.Reference.{ref_of}
+-- Command lines, by their words: a command's name, and what follows it.
+use Rattle.std.specs.Prelude.{ℕ, All, List, [], ◌∷◌, Option, Some, None, bytes_eq, codes, if◌then◌else◌}
+use Rattle.text_lines.specs.Maybe.{◌>>=◌}
 use Rattle.file_tree.specs.Wanted.{IsItem}
-use Rattle.file_tree.specs.declared.item.Item.{Item}
-use Rattle.file_tree.specs.declared.item.Item.TheVariants.{File, Bare}
-use Rattle.gg_cli.specs.declared.words.Command.{Command}
-use Rattle.gg_cli.specs.declared.words.Command.TheVariants.{Force}
-use Rattle.gg_cli.specs.declared.words.Options.{Options}
+use Rattle.build_plan.specs.Fitting.{IsFitRecipe}
+use Rattle.gg_cli.specs.declared.command.Command.{Command}
+use Rattle.gg_cli.specs.declared.command.Command.TheVariants.{Force, CreateThunk, Model, Describe}
+use Rattle.gg_cli.specs.ItemWords.{output_item_of}
+use Rattle.gg_cli.specs.ForceWords.{default_retries, force_of}
+use Rattle.gg_cli.specs.CreateWords.{create_of}
 
--- the greatest number of steps where none is given, and the most that may be given
-abbrev pub default_budget : ℕ
-default_budget = 65536
+-- what follows `model`: the words of a command
+abbrev pub model_of : List (List ℕ) → Option Command
+model_of [] = None
+model_of (first ∷ words) = Some (Model (first ∷ words))
 
--- the most steps that may be given
-abbrev pub max_budget : ℕ
-max_budget = 1048576
-
--- how often a failed call is tried again where no number is given, and the most that may be given
-abbrev pub default_retries : ℕ
-default_retries = 2
-
--- the most tries again that may be given
-abbrev pub max_retries : ℕ
-max_retries = 16
-
--- the most items of a command line
-abbrev pub max_items : ℕ
-max_items = 4096
-
--- the number of steps that a word gives
-abbrev pub budget_of : List ℕ → Option ℕ
-budget_of word = do
-  budget ← number_of word
-  check (nat_le 1 budget)
-  check (nat_le budget max_budget)
-  Some budget
-
--- the number of retries that a word gives
-abbrev pub retries_of : List ℕ → Option ℕ
-retries_of word = do
-  retries ← number_of word
-  check (nat_le retries max_retries)
-  Some retries
-
--- the file at a path, if there is a path
-abbrev pub file_at : Option (List ℕ) → Option Item
-file_at None = None
-file_at (Some path) = Some (File path)
-
--- an item by its text: the REF that it spells, or else the file at its path
-abbrev pub item_by : List ℕ → Option Ref → Option Item
-item_by text (Some ref) = Some (Bare ref)
-item_by text None = file_at (path_of text)
-
--- the item that a word is: none that begins with `-`
-unfoldable pub item_of : List ℕ → Option Item
-item_of word = if starts_with nat_eq word (codes "-") then None else item_by word (ref_of word)
-
--- the items that some words are, if each is one
-unfoldable pub items_in : List (List ℕ) → Option (List Item)
-items_in [] = Some []
-items_in (word ∷ words) = do
-  item ← item_of word
-  items ← items_in words
-  Some (item ∷ items)
-
--- no option is given yet
-abbrev pub no_options : Options
-no_options = record { budget = None; retries = None }
-
--- a number for a slot: none where the slot is full already
-abbrev pub filled : Option ℕ → Option ℕ → Option ℕ
-filled None number = number
-filled (Some given) number = None
-
--- the options with one more, where `word` names an option whose slot is empty and `value` is a number for it: a line for each option
-abbrev pub with_option : Options → List ℕ → List ℕ → Option Options
-with_option given word value =
-    if bytes_eq word (codes "--budget") then (filled given.budget (budget_of value) >>= λ budget. Some (record given { budget = Some budget }))
-    else if bytes_eq word (codes "--retries") then (filled given.retries (retries_of value) >>= λ retries. Some (record given { retries = Some retries }))
-    else None
-
--- the options that some words begin with, beside those given, and the words after them. An option whose slot is full or whose value
--- is no number for it stays the first of the words after them, where no word may begin with `-`
-abbrev pub options_of : Options → List (List ℕ) → Options × List (List ℕ)
-options_of given (word ∷ value ∷ rest) = elim (with_option given word value) [ Some more ↦ options_of more rest | None ↦ (given, word ∷ value ∷ rest) ]
-options_of given rest = (given, rest)
-
--- `ITEM` and more items after the options: at least one, and not too many
-abbrev pub force_items : Options → List (List ℕ) → Option Command
-force_items given words = do
-  check (nat_le 1 (length words))
-  check (nat_le (length words) max_items)
-  items ← items_in words
-  Some (Force (unwrap_or given.budget default_budget) (unwrap_or given.retries default_retries) items)
-
--- the words, but for a `--local` that they begin with
-abbrev pub without_local : List (List ℕ) → List (List ℕ)
-without_local [] = []
-without_local (first ∷ words) = if bytes_eq first (codes "--local") then words else first ∷ words
-
--- what follows `force`: `[--local]`, options in any order, and items
-abbrev pub force_of : List (List ℕ) → Option Command
-force_of words = let read = options_of no_options (without_local words) in force_items read.0 read.1
+-- what follows `describe`: one item, which is no value
+abbrev pub describe_of : List (List ℕ) → Option Command
+describe_of [] = None
+describe_of (word ∷ []) = output_item_of word >>= λ item. Some (Describe item)
+describe_of (word ∷ other ∷ words) = None
 
 -- the command that some words are, if they are one
 unfoldable pub command_of : List (List ℕ) → Option Command
 command_of [] = None
-command_of (first ∷ words) = if bytes_eq first (codes "force") then force_of words else None
+command_of (first ∷ words) =
+    if bytes_eq first (codes "force") then force_of words
+    else if bytes_eq first (codes "create-thunk") then create_of words
+    else if bytes_eq first (codes "model") then model_of words
+    else if bytes_eq first (codes "describe") then describe_of words
+    else None
 
 -- how often a command tries a failed call again; words that are none make no call
 abbrev pub retries_in : Option Command → ℕ
 retries_in None = default_retries
 retries_in (Some (Force budget retries items)) = retries
+retries_in (Some (CreateThunk recipe)) = default_retries
+retries_in (Some (Model words)) = default_retries
+retries_in (Some (Describe item)) = default_retries
 
--- what a command that was read keeps: what is wanted is named by names of the right kind
+-- what a command that was read keeps: what is wanted is named by names of the right kind, and the thunk of a recipe keeps the rules
 abbrev pub IsCommand : Command → Type 0
 IsCommand (Force budget retries items) = All IsItem items
+IsCommand (CreateThunk recipe) = IsFitRecipe recipe
+IsCommand (Model words) = Unit {0}
+IsCommand (Describe item) = IsItem item

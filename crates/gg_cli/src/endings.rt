@@ -1,7 +1,7 @@
 //! The status and the line of each fault, together.
 
-ghost use Rattle.std.specs.Prelude.{◌≡◌};
-ghost use Rattle.gg_cli.specs.Endings.{fault_line, file_text, refusal_ending, ending_of};
+ghost use Rattle.std.specs.Prelude.{◌≡◌, ◌++◌, codes};
+ghost use Rattle.gg_cli.specs.Endings.{fault_line, file_text, reason_text, refusal_ending, ending_of};
 ghost use Rattle.gg_cli.specs.Writing.{Writes};
 ghost use Rattle.gg_cli.specs.StepContracts.{Speaks};
 
@@ -9,7 +9,7 @@ use crate::fault::TopFault;
 use crate::pieces::Piece::{Number, Spelled, Text};
 use crate::pieces::write_line;
 use crate::status::Status;
-use file_tree::FileRefusal;
+use file_tree::{FileRefusal, Reason};
 use need_eval::Refusal;
 use object_name::{Sink, Trouble};
 use std::alloc::Global;
@@ -131,6 +131,41 @@ fn end_refused<S: Sink>(
     }
 }
 
+/// Why a word is refused, in words.
+fn reason_text(reason: Reason) -> &'static [u8]
+    ensures { result.now ≡ reason_text reason }
+{
+    match reason {
+        Reason::Unknown => b"not modelled",
+        Reason::NoValue => b"no value",
+        Reason::BadValue => b"bad value",
+        Reason::TwoStages => b"two stages",
+        Reason::OneFile => b"one file only",
+        Reason::NoInput => b"no input",
+        Reason::NeedsOutput => b"needs -o",
+        Reason::WrongKind => b"wrong kind of file",
+        Reason::TooMany => b"too many files",
+        Reason::Shell => b"shell syntax",
+        Reason::Same => b"same file",
+    }
+}
+
+/// Writes the line of a refused word.
+fn write_word_line<S: Sink>(
+    alloc: Global,
+    sink: &mut S,
+    word: &[u8],
+    reason: Reason,
+) -> Result<(), Trouble>
+    ensures { Writes (fault_line (word.now ++ (codes ": " ++ reason_text reason))) (S.written sink.old) (S.written sink.new) (S.faults sink.old) (S.faults sink.new) result }
+{
+    write_line(
+        alloc,
+        sink,
+        &[Text(word), Text(b": "), Text(reason_text(reason))],
+    )
+}
+
 /// Writes the line of a fault; answers its status, and whether all was written.
 fn end<S: Sink>(alloc: Global, sink: &mut S, fault: &TopFault) -> (Status, Result<(), Trouble>)
     ensures status { result.0 ≡ (ending_of fault.now).status }
@@ -143,6 +178,10 @@ fn end<S: Sink>(alloc: Global, sink: &mut S, fault: &TopFault) -> (Status, Resul
             write_file_line(alloc, sink, refusal),
         ),
         TopFault::Refused(refusal) => end_refused(alloc, sink, refusal),
+        TopFault::NotModelled { word, reason } => (
+            Status::NotModelled,
+            write_word_line(alloc, sink, word.as_slice(), *reason),
+        ),
         TopFault::Clash(name) => (
             Status::Clash,
             write_line(alloc, sink, &[Text(b"two objects named "), Spelled(*name)]),

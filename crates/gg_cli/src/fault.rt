@@ -1,10 +1,11 @@
 //! Why a command line isn't done.
 
 ghost use Rattle.std.specs.Prelude.{◌≡◌};
+ghost use Rattle.gg_cli.specs.LowerFaults.{output_fault};
 
-use file_tree::{FileRefusal, WantFault};
+use file_tree::{FileRefusal, Reason, WantFault};
 use need_eval::Refusal;
-use object_name::Name;
+use object_name::{Bytes, Name, Trouble};
 
 /// Why a command line isn't done.
 #[derive(Debug, Drop)]
@@ -15,7 +16,9 @@ pub(crate) enum TopFault {
     FileRefused(FileRefusal),
     /// What was wanted is refused.
     Refused(Refusal),
-    /// Other bytes are held under the name of an output.
+    /// A word of a command is refused, or the command is.
+    NotModelled { word: Bytes, reason: Reason },
+    /// Other bytes are held under the name of an object that was to be stored.
     Clash(Name),
     /// The keeper failed.
     StoreFailed,
@@ -25,6 +28,16 @@ pub(crate) enum TopFault {
     OutputFailed,
     /// Memory ran out.
     Memory,
+}
+
+/// The fault of an output that is in trouble.
+pub(crate) fn output_fault(trouble: Trouble) -> TopFault
+    ensures { result ≡ output_fault trouble }
+{
+    match trouble {
+        Trouble::Failed => TopFault::OutputFailed,
+        Trouble::Memory => TopFault::Memory,
+    }
 }
 
 /// Why values aren't in the files that wanted them.

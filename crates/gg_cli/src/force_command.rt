@@ -15,13 +15,13 @@ ghost use Rattle.gg_cli.specs.Comes.{around};
 ghost use Rattle.gg_cli.specs.LowerFaults.{IsFaultOf};
 ghost use Rattle.gg_cli.specs.StepContracts.{Ends, Values, HandsOut, EndCause, answered, file_faults_of, kept_counts, kept_faults_of};
 
-use crate::fault::TopFault;
+use crate::fault::{TopFault, output_fault};
 use crate::value_files::write_files;
 use crate::value_lines::print_values;
 use blob_store::Keeper;
 use file_tree::{Item, Tree, wanted};
 use need_eval::{EvalFault, evaluate};
-use object_name::{Many, Name, Sink, Trouble};
+use object_name::{Many, Name, Sink};
 use sandbox_run::Cards;
 use std::alloc::Global;
 use thunk_codec::Ref;
@@ -84,8 +84,7 @@ fn hand_out<K: Keeper, T: Tree, O: Sink>(
     write_files(alloc, keeper, tree, names, items, retries)?;
     match print_values(alloc, out, names, items) {
         Ok(()) => Ok(()),
-        Err(Trouble::Failed) => Err(TopFault::OutputFailed),
-        Err(Trouble::Memory) => Err(TopFault::Memory),
+        Err(trouble) => Err(output_fault(trouble)),
     }
 }
 

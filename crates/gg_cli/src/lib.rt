@@ -1,16 +1,28 @@
 //! The command line of gg: its words, its answer, and the texts that it prints.
 #![tactic(auto)]
 
+mod command;
+mod create_command;
+mod create_words;
+mod describe_command;
+mod description;
 mod endings;
 mod fault;
 mod force_command;
+mod force_words;
+mod item_words;
+mod model_command;
 mod pieces;
 mod status;
 mod top;
 mod value_files;
 mod value_lines;
+mod word_fault;
 mod words;
+mod work_fault;
 
+pub use command::Command;
 pub use status::Status;
 pub use top::gg_top;
-pub use words::{Command, WordFault, read_words};
+pub use word_fault::WordFault;
+pub use words::read_words;

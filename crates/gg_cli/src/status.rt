@@ -24,6 +24,8 @@ pub enum Status {
     TooBig = 7,
     /// An item is refused.
     FileRefused = 8,
+    /// A command or a word of it is not modelled.
+    NotModelled = 9,
     /// Two objects have one name.
     Clash = 10,
     /// The keeper failed.

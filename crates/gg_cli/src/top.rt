@@ -9,11 +9,16 @@ ghost use Rattle.gg_cli.specs.Answer.{answer_of, answer_of_command};
 ghost use Rattle.gg_cli.specs.Comes.{around, Comes, Says, SaysUntold, TopCause, file_failures, kept_failures};
 ghost use Rattle.gg_cli.specs.StepContracts.{Ends, EndCause, answered, file_faults_of, kept_faults_of};
 
+use crate::command::{Command, DEFAULT_RETRIES};
+use crate::create_command::create_thunk;
+use crate::describe_command::describe;
 use crate::endings::say;
 use crate::fault::TopFault;
 use crate::force_command::force;
+use crate::model_command::model;
 use crate::status::Status;
-use crate::words::{Command, WordFault, read_words};
+use crate::word_fault::WordFault;
+use crate::words::read_words;
 use blob_store::Keeper;
 use file_tree::Tree;
 use object_name::Sink;
@@ -49,6 +54,11 @@ fn do_command<K: Keeper, T: Tree, O: Sink>(
             *budget,
             *retries,
         ),
+        Command::CreateThunk(recipe) => {
+            create_thunk(alloc, keeper, tree, out, recipe, DEFAULT_RETRIES)
+        }
+        Command::Model(words) => model(alloc, keeper, tree, words.as_slice(), DEFAULT_RETRIES),
+        Command::Describe(item) => describe(alloc, keeper, tree, out, item, DEFAULT_RETRIES),
     }
 }
 

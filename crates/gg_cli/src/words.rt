@@ -1,216 +1,49 @@
 //! Command lines, by their words.
 
-ghost use Rattle.std.specs.Prelude.{◌≡◌, All, Some, None, map, string_bytes, IfOk, IsErrOf};
-ghost use Rattle.file_tree.specs.Wanted.{IsItem};
-ghost use Rattle.gg_cli.specs.Words.{budget_of, retries_of, item_of, items_in, no_options, filled, with_option, options_of, force_items, without_local, force_of, command_of, IsCommand};
+ghost use Rattle.std.specs.Prelude.{◌≡◌, Some, None, map, string_bytes, IfOk, IsErrOf};
+ghost use Rattle.gg_cli.specs.Words.{model_of, describe_of, command_of, IsCommand};
 ghost use Rattle.gg_cli.specs.Reading.{Finds};
 
-use file_tree::Item;
-use object_name::{Many, read_number};
-use std::alloc::{AllocError, AllocFailed, Global};
-use thunk_codec::{Path, Ref};
+use crate::command::Command;
+use crate::create_words::read_create;
+use crate::force_words::read_force;
+use crate::item_words::read_output;
+use crate::word_fault::WordFault;
+use object_name::{Bytes, Many};
+use std::alloc::{AllocError, Global};
 
-/// The greatest number of steps where none is given.
-const DEFAULT_BUDGET: u32 = 65_536;
-
-/// The greatest number of steps that may be given.
-const MAX_BUDGET: u64 = 1_048_576;
-
-/// How often a failed call is tried again where no number is given.
-const DEFAULT_RETRIES: u32 = 2;
-
-/// The most that may be given.
-const MAX_RETRIES: u64 = 16;
-
-/// The most items of a command line.
-const MAX_ITEMS: usize = 4_096;
-
-/// What the words ask for.
-#[derive(Debug, Drop)]
-pub enum Command {
-    /// The values of items, worked out here in so many steps at most, which they share. A failed call of the store or of the
-    /// tree is tried again so often at most.
-    Force {
-        budget: u32,
-        retries: u32,
-        items: Many<Item>,
-    },
-}
-
-/// The options that are given: a slot for each.
-#[derive(Clone, Copy, Debug, PartialEq, Eq)]
-struct Options {
-    /// The greatest number of steps.
-    budget: Option<u32>,
-    /// How often a failed call is tried again.
-    retries: Option<u32>,
-}
-
-/// Why there is no command.
-#[derive(Clone, Copy, Debug, PartialEq, Eq)]
-pub enum WordFault {
-    /// The words are no command line.
-    Usage,
-    /// Memory ran out.
-    Memory,
-}
-
-impl From<AllocError> for WordFault {
-    ghost use Rattle.std.specs.Prelude.{◌≡◌};
-    ghost use Rattle.gg_cli.specs.declared.words.WordFault.TheVariants.{Memory};
-
-    ghost from_gives = { λ _ fault. fault ≡ Memory };
-
-    fn from(_: AllocError) -> Self {
-        WordFault::Memory
-    }
-}
-
-impl<T: Drop> From<AllocFailed<T>> for WordFault {
-    ghost use Rattle.std.specs.Prelude.{◌≡◌};
-    ghost use Rattle.gg_cli.specs.declared.words.WordFault.TheVariants.{Memory};
-
-    ghost from_gives = { λ _ fault. fault ≡ Memory };
-
-    fn from(_: AllocFailed<T>) -> Self {
-        WordFault::Memory
-    }
-}
-
-/// The number of steps that a word gives.
-fn read_budget(word: &[u8]) -> Option<u32>
-    ensures { result ≡ budget_of word.now }
+/// Copies of some words.
+fn copied(alloc: Global, words: &[String]) -> Result<Many<Bytes>, AllocError>
+    ensures { IfOk result (λ copies. copies ≡ map string_bytes words.now) }
 {
-    let budget = read_number(word)?;
-    if budget < 1 {
-        return None;
-    }
-    if budget > MAX_BUDGET {
-        return None;
-    }
-    Some(budget as u32)
-}
-
-/// The number of retries that a word gives.
-fn read_retries(word: &[u8]) -> Option<u32>
-    ensures { result ≡ retries_of word.now }
-{
-    let retries = read_number(word)?;
-    if retries > MAX_RETRIES {
-        return None;
-    }
-    Some(retries as u32)
-}
-
-/// The item that a word is.
-fn read_item(alloc: Global, word: &[u8]) -> Result<Item, WordFault>
-    ensures exact { Finds result (item_of word.now) }
-    ensures rules { IfOk result (λ item. IsItem item) }
-{
-    if word.starts_with(b"-") {
-        return Err(WordFault::Usage);
-    }
-    if let Some(reference) = Ref::read(word) {
-        return Ok(Item::Bare(reference));
-    }
-    match Path::read(alloc, word)? {
-        Some(path) => Ok(Item::File(path)),
-        None => Err(WordFault::Usage),
-    }
-}
-
-/// The items that some words are, where each is one.
-fn read_each(alloc: Global, words: &[String]) -> Result<Many<Item>, WordFault>
-    ensures exact { Finds result (items_in (map string_bytes words.now)) }
-    ensures rules { IfOk result (λ items. All IsItem items) }
-{
-    let mut items = Many::new(alloc);
+    let mut copies = Many::new(alloc);
     'words: for word in words {
-        let item = read_item(alloc, word.as_bytes())?;
-        items.push(item)?;
+        let copy = Bytes::from_slice(alloc, word.as_bytes())?;
+        copies.push(copy)?;
     }
-    Ok(items)
+    Ok(copies)
 }
 
-/// The number for a slot: none where the slot is full already.
-fn fill(slot: Option<u32>, number: Option<u32>) -> Option<u32>
-    ensures { result ≡ filled slot number }
-{
-    match slot {
-        Some(_) => None,
-        None => number,
-    }
-}
-
-/// The options with one more, where `word` names an option whose slot is empty and `value` is a number for it.
-fn with_option(given: Options, word: &[u8], value: &[u8]) -> Option<Options>
-    ensures { result ≡ with_option given word.now value.now }
-{
-    if word == b"--budget".as_slice() {
-        let budget = Some(fill(given.budget, read_budget(value))?);
-        return Some(Options { budget, ..given });
-    }
-    if word == b"--retries".as_slice() {
-        let retries = Some(fill(given.retries, read_retries(value))?);
-        return Some(Options { retries, ..given });
-    }
-    None
-}
-
-/// The options that some words begin with, and the words after them.
-fn read_options(words: &[String]) -> (Options, &[String])
-    ensures { (result.0, map string_bytes result.1.now) ≡ options_of no_options (map string_bytes words.now) }
-{
-    let mut given = Options {
-        budget: None,
-        retries: None,
-    };
-    let mut rest = words;
-    'options: while let [word, value, after @ ..] = rest
-        && let Some(more) = with_option(given, word.as_bytes(), value.as_bytes())
-    {
-        given = more;
-        rest = after;
-    }
-    (given, rest)
-}
-
-/// The command that forces the items that some words are, with these options.
-fn read_items(alloc: Global, given: Options, words: &[String]) -> Result<Command, WordFault>
-    ensures exact { Finds result (force_items given (map string_bytes words.now)) }
+/// The command by what follows `model`.
+fn read_model(alloc: Global, words: &[String]) -> Result<Command, WordFault>
+    ensures exact { Finds result (model_of (map string_bytes words.now)) }
     ensures rules { IfOk result (λ command. IsCommand command) }
 {
     if words.is_empty() {
         return Err(WordFault::Usage);
     }
-    if words.len() > MAX_ITEMS {
-        return Err(WordFault::Usage);
-    }
-    let items = read_each(alloc, words)?;
-    Ok(Command::Force {
-        budget: given.budget.unwrap_or(DEFAULT_BUDGET),
-        retries: given.retries.unwrap_or(DEFAULT_RETRIES),
-        items,
-    })
+    Ok(Command::Model(copied(alloc, words)?))
 }
 
-/// The words, but for a `--local` that they begin with.
-fn skip_local(words: &[String]) -> &[String]
-    ensures { map string_bytes result.now ≡ without_local (map string_bytes words.now) }
-{
-    match words.split_first() {
-        Some((first, others)) if first.as_bytes() == b"--local".as_slice() => others,
-        _ => words,
-    }
-}
-
-/// The command by what follows `force`.
-fn read_force(alloc: Global, words: &[String]) -> Result<Command, WordFault>
-    ensures exact { Finds result (force_of (map string_bytes words.now)) }
+/// The command by what follows `describe`.
+fn read_describe(alloc: Global, words: &[String]) -> Result<Command, WordFault>
+    ensures exact { Finds result (describe_of (map string_bytes words.now)) }
     ensures rules { IfOk result (λ command. IsCommand command) }
 {
-    let (given, items) = read_options(skip_local(words));
-    read_items(alloc, given, items)
+    match words {
+        [word] => Ok(Command::Describe(read_output(alloc, word.as_bytes())?)),
+        _ => Err(WordFault::Usage),
+    }
 }
 
 /// The command that some words are.
@@ -224,8 +57,17 @@ pub fn read_words(alloc: Global, words: &[String]) -> Result<Command, WordFault>
     let Some((first, others)) = words.split_first() else {
         return Err(WordFault::Usage);
     };
-    if first.as_bytes() != b"force".as_slice() {
-        return Err(WordFault::Usage);
+    if first.as_bytes() == b"force".as_slice() {
+        return read_force(alloc, others);
     }
-    read_force(alloc, others)
+    if first.as_bytes() == b"create-thunk".as_slice() {
+        return read_create(alloc, others);
+    }
+    if first.as_bytes() == b"model".as_slice() {
+        return read_model(alloc, others);
+    }
+    if first.as_bytes() == b"describe".as_slice() {
+        return read_describe(alloc, others);
+    }
+    Err(WordFault::Usage)
 }

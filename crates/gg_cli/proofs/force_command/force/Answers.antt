@@ -6,7 +6,7 @@ use Rattle.object_name.specs.Name.{ObjectName}
 use Rattle.gg_cli.specs.Endings.{ending_of}
 use Rattle.gg_cli.specs.StepContracts.{file_faults_of, kept_faults_of}
 use Rattle.gg_cli.proofs.TriesAddUp.{handed, want-unkept, want-fails, kept-unfiled}
-use Rattle.gg_cli.proofs.ListsGrow.{same_filed}
+use Rattle.file_tree.proofs.PublicLaws.{same_filed}
 use Rattle.gg_cli.proofs.PartsCauseTheWhole.{Ends-handed, EndCause-handed, EndCause-within, TopCause-kept}
 use Rattle.gg_cli.proofs.StepsMakeTheAnswer.{want_ends, want_cause, values_end, hands_end}
 use Rattle.gg_cli.proofs.force_command.force.Goals as goal

@@ -2,9 +2,9 @@ use Rattle.std.proofs.Common.{◌∙◌}
 use Rattle.object_name.specs.Causes.{TriesAtMost}
 use Rattle.gg_cli.specs.StepContracts.{file_faults_of, kept_faults_of}
 use Rattle.gg_cli.proofs.TriesAddUp.{handed}
-use Rattle.gg_cli.proofs.ListsGrow.{same_kept}
+use Rattle.blob_store.proofs.PublicLaws.{same_kept}
 use Rattle.gg_cli.proofs.PartsCauseTheWhole.{Ends-handed, EndCause-handed}
-use Rattle.gg_cli.proofs.StepsMakeTheAnswer.{filing_ends, filing_cause, printed_done, printed_failed, printed_part}
+use Rattle.gg_cli.proofs.StepsMakeTheAnswer.{filing_ends, filing_cause, printed_done, printed_ends}
 use Rattle.gg_cli.proofs.force_command.hand_out.Goals as goal
 
 pub returns-in_err-write_files-clause-ends : goal.returns-in_err-write_files-clause-ends
@@ -18,13 +18,9 @@ pub returns-in-Ok-clause-ends : goal.returns-in-Ok-clause-ends
 returns-in-Ok-clause-ends g c kept files before writes made =
     printed_done writes _ before _ (same_kept g.K.Keeper.store g.K.Keeper.writes _ _ (c.write_files.ensures.same kept) (c.write_files.ensures.list kept) ∙ made) _ _ _ _ _ _ _ (c.in_ok-write_files.ensures.filed kept files) _ c.in-Ok.ensures
 
-pub returns-in-Err-Failed-clause-ends : goal.returns-in-Err-Failed-clause-ends
-returns-in-Err-Failed-clause-ends g c kept files before writes made =
-    printed_failed writes _ before _ (same_kept g.K.Keeper.store g.K.Keeper.writes _ _ (c.write_files.ensures.same kept) (c.write_files.ensures.list kept) ∙ made) _ _ _ _ _ _ _ (c.in_ok-write_files.ensures.filed kept files) _ _ c.in-Err-Failed.ensures
-
-pub returns-in-Err-Memory-clause-ends : goal.returns-in-Err-Memory-clause-ends
-returns-in-Err-Memory-clause-ends g c kept files before writes made =
-    printed_part writes _ before _ (same_kept g.K.Keeper.store g.K.Keeper.writes _ _ (c.write_files.ensures.same kept) (c.write_files.ensures.list kept) ∙ made) _ _ _ _ _ _ _ (c.in_ok-write_files.ensures.filed kept files) _ _ c.in-Err-Memory.ensures
+pub returns-in-Err-clause-ends : goal.returns-in-Err-clause-ends
+returns-in-Err-clause-ends g c kept files before writes made =
+    rw c.output_fault.ensures (printed_ends writes _ before _ (same_kept g.K.Keeper.store g.K.Keeper.writes _ _ (c.write_files.ensures.same kept) (c.write_files.ensures.list kept) ∙ made) _ _ _ _ _ _ _ (c.in_ok-write_files.ensures.filed kept files) _ _ c.in-Err.ensures)
 
 pub returns-in_err-write_files-clause-kept_tries : goal.returns-in_err-write_files-clause-kept_tries
 returns-in_err-write_files-clause-kept_tries g c kept =

@@ -1,0 +1,26 @@
+//! What a command line asks for.
+
+use build_plan::Recipe;
+use file_tree::Item;
+use object_name::{Bytes, Many};
+
+/// How often a failed call is tried again where no number is given.
+pub(crate) const DEFAULT_RETRIES: u32 = 2;
+
+/// What the words ask for. A failed call of the store or of the tree is tried again, twice at most where no number says how often.
+#[derive(Debug, Drop)]
+pub enum Command {
+    /// The values of items, worked out here in so many steps at most, which they share. A failed call of the store or of the
+    /// tree is tried again so often at most.
+    Force {
+        budget: u32,
+        retries: u32,
+        items: Many<Item>,
+    },
+    /// A thunk, and a placeholder for each of its outputs.
+    CreateThunk(Recipe),
+    /// The thunks of the work that a command has, whose words these are, and placeholders for the files that it writes.
+    Model(Many<Bytes>),
+    /// What the thunk says of which an item is an output.
+    Describe(Item),
+}
