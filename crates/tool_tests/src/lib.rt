@@ -2,4 +2,10 @@
 #![tactic(auto)]
 
 #[cfg(test)]
+mod bin_words;
+#[cfg(test)]
 mod scans;
+#[cfg(test)]
+mod script_words;
+#[cfg(test)]
+mod words;
