@@ -35,6 +35,7 @@ GROUPS = [
     ("Files", ["file_tree"]),
     ("Evaluation", ["need_eval"]),
     ("Cards", ["tool_text", "tool_bin", "sandbox_run"]),
+    ("Models", ["include_scan", "build_plan", "model_gcc"]),
     ("Answer", ["gg_cli"]),
     ("Ends", ["object_name/specs/Causes.antt", "object_name/specs/Streams.antt",
               "object_name/src/sink.rt", "gg_cli/specs/Comes.antt"]),
