@@ -79,7 +79,7 @@ line_envs (env ∷ envs) =
 pub length-input_line : (input : List ℕ × Ref) → 5 + length input.0 ≤ length (input_line input)
 length-input_line input = simp length-append (omega arith)
 
-ref_size : (r : Ref) → IsRef r → (ref_name r).size ≤ max_size
+pub ref_size : (r : Ref) → IsRef r → (ref_name r).size ≤ max_size
 ref_size (Value name) h = h.0.size
 ref_size (Out name index) h = h.0.size
 
@@ -172,3 +172,10 @@ pub size_by_lengths_is : (function : ℕ) (args : List (List ℕ)) (envs : List 
     + sum_by (λ input. 8 + length input.0 + input.1) inputs + sum_by (λ output. 4 + length output) outputs
 unfolding size_by_lengths
 size_by_lengths_is function args envs inputs outputs = refl
+
+-- the length of a job's encoding is the sum of these sums
+pub job_size_is : (j : Job) → length (job_encoding j) ≡ 20 + length j.function + sum_by (λ arg. 4 + length arg) j.args
+    + sum_by (λ env. 8 + length env.0 + length env.1) j.envs + sum_by (λ input. 8 + length input.0 + length input.1) j.inputs
+    + sum_by (λ output. 4 + length output) j.outputs
+unfolding size_by_lengths
+job_size_is j = omega (arith, job_size_by_lengths j, sum_by-map (λ (input : List ℕ × ℕ). 8 + length input.0 + input.1) (λ (input : List ℕ × List ℕ). (input.0, length input.1)) j.inputs)

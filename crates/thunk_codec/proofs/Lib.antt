@@ -19,4 +19,6 @@ pub mod SortedByKey
 pub mod SortedPaths
 pub mod PartsFit
 pub mod ShortPaths
+pub mod SameJobs
+pub mod JobsKeepRules
 pub mod PublicLaws

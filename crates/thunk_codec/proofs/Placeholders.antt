@@ -20,9 +20,9 @@ output_is : (r : Ref) (read : ObjectName × ℕ) → output_of r ≡ Some read �
 output_is (Value name) read e = absurd cc
 output_is (Out name index) read e = ap (λ (v : ObjectName × ℕ). Out v.0 v.1) (same_Some (name, index) read e)
 
-pub placeholder_taken : (bytes : List ℕ) (read : ObjectName × ℕ) → placeholder_of bytes ≡ Some read → IsPlaceholder bytes read.0 read.1
+pub placeholder_of-text : (bytes : List ℕ) (read : ObjectName × ℕ) → placeholder_of bytes ≡ Some read → IsPlaceholder bytes read.0 read.1
 unfolding placeholder_of
-placeholder_taken bytes read e =
+placeholder_of-text bytes read e =
     let a = bind_some (strip_prefix first_line bytes) (λ line. before_feed line >>= λ text. ref_of text >>= λ ref. output_of ref) read e in
     let b = bind_some (before_feed a.0) (λ text. ref_of text >>= λ ref. output_of ref) read a.2 in
     let c = bind_some (ref_of b.0) (λ ref. output_of ref) read b.2 in
@@ -41,20 +41,20 @@ read_by mark bytes line text r read first feed ref output =
     ∙ ap (λ (v : Option Ref). v >>= λ ref. output_of ref) ref
     ∙ output
 
-pub placeholder_again : (bytes : List ℕ) (name : ObjectName) (index : ℕ) → IsPlaceholder bytes name index → placeholder_of bytes ≡ Some (name, index)
+pub text-placeholder_of : (bytes : List ℕ) (name : ObjectName) (index : ℕ) → IsPlaceholder bytes name index → placeholder_of bytes ≡ Some (name, index)
 unfolding placeholder_of
-placeholder_again bytes name index h =
+text-placeholder_of bytes name index h =
     let text = ref_text (Out name index) in
     read_by first_line bytes (text ++ 10 ∷ []) text (Out name index) (name, index) (ap (strip_prefix first_line) h.text ∙ strip_prefix_again first_line (text ++ 10 ∷ [])) (feed_again text) (ref_again (Out name index) h.output) refl
 
 pub placeholder_found : (bytes : List ℕ) (found : Option (ObjectName × ℕ)) → found ≡ placeholder_of bytes → IfSome found (λ read. IsPlaceholder bytes read.0 read.1)
 placeholder_found bytes None e = tt
-placeholder_found bytes (Some read) e = placeholder_taken bytes read (sym e)
+placeholder_found bytes (Some read) e = placeholder_of-text bytes read (sym e)
 
 pub placeholder_only : (bytes : List ℕ) (found : Option (ObjectName × ℕ)) (name : ObjectName) (index : ℕ) → found ≡ placeholder_of bytes → IsPlaceholder bytes name index → found ≡ Some (name, index)
-placeholder_only bytes found name index e h = e ∙ placeholder_again bytes name index h
+placeholder_only bytes found name index e h = e ∙ text-placeholder_of bytes name index h
 
 pub one_placeholder : (bytes : List ℕ) (name other : ObjectName) (index place : ℕ) → IsPlaceholder bytes name index → IsPlaceholder bytes other place → (name ≡ other) × (index ≡ place)
 one_placeholder bytes name other index place h k =
-    let e : ◌≡◌ {A = ObjectName × ℕ} (name, index) (other, place) = same_Some _ _ (sym (placeholder_again bytes name index h) ∙ placeholder_again bytes other place k) in
+    let e : ◌≡◌ {A = ObjectName × ℕ} (name, index) (other, place) = same_Some _ _ (sym (text-placeholder_of bytes name index h) ∙ text-placeholder_of bytes other place k) in
     (ap (λ (v : ObjectName × ℕ). v.0) e, ap (λ (v : ObjectName × ℕ). v.1) e)

@@ -9,6 +9,12 @@ pub use Rattle.thunk_codec.proofs.Lengths.{job_size_by_lengths}
 -- reading a thunk's text is the inverse of writing it, and a thunk with values in place of its references is one
 pub use Rattle.thunk_codec.proofs.Thunks.{thunk_of-text, text-thunk_of}
 pub use Rattle.thunk_codec.proofs.Resolves.{resolved_is_thunk}
+-- reading a placeholder is the inverse of writing it
+pub use Rattle.thunk_codec.proofs.Placeholders.{placeholder_of-text, text-placeholder_of}
+-- the job of a thunk keeps the rules of a job, and its length is known from the thunk
+pub use Rattle.thunk_codec.proofs.JobsKeepRules.{job_of-keeps_rules, job_of-size}
+-- jobs are the same exactly where they are equal
+pub use Rattle.thunk_codec.proofs.SameJobs.{same_job-equal, equal-same_job}
 -- parts that keep the rules and whose lines are short enough make a thunk, whatever REFs stand in them
 pub use Rattle.thunk_codec.proofs.PartsFit.{parts-fit}
 -- a path has at most 1,024 bytes; one component is a path, and so are digits, `out` and `in`

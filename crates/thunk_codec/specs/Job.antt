@@ -1,13 +1,15 @@
 -- Jobs: what a function is run on, and how long its encoding is.
-use Rattle.std.specs.Prelude.{ℕ, ◌+◌, List, [], ◌∷◌, ◌++◌, length, map, sum_by, bytes_eq, Option, Some, None, if◌then◌else◌}
-use Rattle.std.specs.List.{flat_map}
+use Rattle.std.specs.Prelude.{◌≡◌, ℕ, ◌+◌, List, [], ◌∷◌, ◌++◌, length, map, sum_by, bytes_eq, nat_le, Bool, ◌&&◌, Option, Some, None, if◌then◌else◌}
+use Rattle.std.specs.List.{flat_map, list_all}
 use Rattle.std.specs.Int.{w32, to_be_bytes}
-use Rattle.object_name.specs.Name.{ObjectName}
+use Rattle.std.specs.Cmp.Lexicographic.{pointwise}
+use Rattle.object_name.specs.Kind.{max_outputs}
+use Rattle.object_name.specs.Name.{ObjectName, max_size}
 use Rattle.thunk_codec.specs.declared.job.Job.{Job}
 use Rattle.thunk_codec.specs.declared.reference.Ref.{Ref}
 use Rattle.thunk_codec.specs.declared.reference.Ref.TheVariants.{Value, Out}
 use Rattle.text_lines.specs.Maybe.{◌>>◌, check}
-use Rattle.thunk_codec.specs.Thunk.{Parts}
+use Rattle.thunk_codec.specs.Thunk.{Parts, has_no_zero, is_identifier, is_strictly_increasing, are_distinct}
 
 -- the greatest length of a job's encoding, in bytes
 abbrev pub max_job : ℕ
@@ -50,9 +52,46 @@ abbrev pub ref_name : Ref → ObjectName
 ref_name (Value name) = name
 ref_name (Out name index) = name
 
+-- an input's path and the length of its object
+abbrev pub with_length : List ℕ × List ℕ → List ℕ × ℕ
+with_length input = (input.0, length input.1)
+
+-- an input's path and the size in the name of its object
+abbrev pub with_size : List ℕ × Ref → List ℕ × ℕ
+with_size input = (input.0, (ref_name input.1).size)
+
+-- a job has the parts of a thunk, and objects of the sizes in the names of its REFs
+pub record IsJobOf (t : Parts) (job : Job) : Type 0 where
+  pub function : length job.function ≡ (ref_name t.function).size
+  pub args : job.args ≡ t.args
+  pub envs : job.envs ≡ t.envs
+  pub inputs : map with_length job.inputs ≡ map with_size t.inputs
+  pub outputs : job.outputs ≡ t.outputs
+
+-- the rules that the job of a thunk keeps: no object is longer than one may be, and the rules of a thunk on numbers, on bytes and
+-- on orders
+abbrev pub job_keeps_rules : Job → Bool
+job_keeps_rules job = nat_le (length job.function) max_size
+    && (list_all (λ input. nat_le (length input.1) max_size) job.inputs
+    && ((nat_le (length job.inputs) 4096 && (nat_le 1 (length job.outputs) && nat_le (length job.outputs) max_outputs))
+    && ((list_all has_no_zero job.args && (list_all (λ env. is_identifier env.0) job.envs && list_all (λ env. has_no_zero env.1) job.envs))
+    && (is_strictly_increasing (map (λ env. env.0) job.envs) && (is_strictly_increasing (map (λ input. input.0) job.inputs) && are_distinct job.outputs)))))
+
 -- the size of the job of a thunk whose REFs are all values, by the sizes in their names
 unfoldable pub resolved_size : Parts → ℕ
-resolved_size t = size_by_lengths (ref_name t.function).size t.args t.envs (map (λ input. (input.0, (ref_name input.1).size)) t.inputs) t.outputs
+resolved_size t = size_by_lengths (ref_name t.function).size t.args t.envs (map with_size t.inputs) t.outputs
+
+-- whether two pairs have the same bytes
+abbrev pub same_pair : List ℕ × List ℕ → List ℕ × List ℕ → Bool
+same_pair one other = bytes_eq one.0 other.0 && bytes_eq one.1 other.1
+
+-- whether two jobs have the same parts
+unfoldable pub same_job : Job → Job → Bool
+same_job one other = bytes_eq one.function other.function
+    && (pointwise bytes_eq one.args other.args
+    && (pointwise same_pair one.envs other.envs
+    && (pointwise same_pair one.inputs other.inputs
+    && pointwise bytes_eq one.outputs other.outputs)))
 
 -- the bytes of the first input with this path
 abbrev pub input_at : List ℕ → List (List ℕ × List ℕ) → Option (List ℕ)

@@ -59,6 +59,19 @@ pub fn lengths_size(inputs: &[(Path, u64)]) -> u64
     size
 }
 
+/// The lengths of some paths and of the bytes that stand there as strings.
+pub fn objects_size(inputs: &[(Path, Bytes)]) -> u64
+    requires { sum_by (λ input. 8 + length input.0 + length input.1) inputs.now < 2 ^ 40 }
+    ensures sum { result ≡ sum_by (λ input. 8 + length input.0 + length input.1) inputs.now }
+    ensures small { result < 2 ^ 40 }
+{
+    let mut size = 0;
+    for (path, bytes) in inputs {
+        size += 8 + path.text().len() as u64 + bytes.len() as u64;
+    }
+    size
+}
+
 /// The lengths of some paths as strings.
 pub fn outputs_size(outputs: &[Path]) -> u64
     requires { sum_by (λ output. 4 + length output) outputs.now < 2 ^ 40 }

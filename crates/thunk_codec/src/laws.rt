@@ -13,7 +13,7 @@ ghost use Rattle.thunk_codec.specs.Reference.{IsRef, ref_text, ref_of};
 ghost use Rattle.thunk_codec.specs.Thunk.{Parts, IsThunk, Text, keeps_rules};
 ghost use Rattle.thunk_codec.specs.Fitting.{AreFit, unreferring, text_bound};
 ghost use Rattle.thunk_codec.specs.Reading.{thunk_of};
-ghost use Rattle.thunk_codec.specs.Job.{job_size, size_by_lengths};
+ghost use Rattle.thunk_codec.specs.Job.{IsJobOf, job_keeps_rules, job_size, resolved_size, same_job, size_by_lengths};
 ghost use Rattle.thunk_codec.specs.Resolved.{refs_of, resolved_by, AreNames, HaveValueKind, OfThunk, HaveObjectLengths};
 
 /// A normal path is its own normal path, and the normal path of a text is one.
@@ -74,6 +74,17 @@ pub fn no_prefix()
 /// The length of a job's encoding is known from the lengths of its objects.
 pub fn job_length()
     ensures { (j : Job) → job_size j ≡ size_by_lengths (length j.function) j.args j.envs (map (λ i. (i.0, length i.1)) j.inputs) j.outputs }
+{}
+
+/// Jobs are the same exactly where they are equal.
+pub fn jobs_are_compared()
+    ensures { (a : Job) (b : Job) → (same_job a b ≡ true) ↔ (a ≡ b) }
+{}
+
+/// The job of a thunk keeps the rules of a job, and the length of its encoding is known from the sizes in the names of the thunk.
+pub fn jobs_keep_rules()
+    ensures rules { (t : Parts) (j : Job) → IsThunk t → IsJobOf t j → job_keeps_rules j ≡ true }
+    ensures size { (t : Parts) (j : Job) → IsJobOf t j → job_size j ≡ resolved_size t }
 {}
 
 /// The length of a job's encoding is small.

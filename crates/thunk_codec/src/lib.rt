@@ -34,12 +34,14 @@ pub use inputs::InputsByPath;
 pub use job::{Job, Outcome, only_input};
 pub use job_length::job_len;
 pub use making::MakeFault;
-pub use part_rules::keep_rules;
+pub use part_rules::{keep_rules, look_at_paths};
 pub use path::Path;
 pub use placeholder::{read_placeholder, write_placeholder};
 pub use reference::Ref;
 pub use resolving::resolve;
-pub use rules::{is_among, is_identifier, is_letter, is_letter_or_digit};
+pub use rules::{
+    is_among, is_identifier, is_letter, is_letter_or_digit, keep_bytes, keep_numbers, keep_orders,
+};
 pub use sorting::{sort_envs, sort_paths};
 pub use thunk::Thunk;
 pub use tool_card::card;

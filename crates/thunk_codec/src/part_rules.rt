@@ -10,8 +10,8 @@ use crate::path::Path;
 use crate::rules::{are_sorted, is_before, keep_bytes, keep_numbers, paths_are_distinct};
 use object_name::Bytes;
 
-/// Looks at some paths, whose type says of each that it is canonical.
-fn look_at(paths: &[Path])
+/// Looks at some paths, whose type says of each that it is canonical. It does nothing, and takes no memory.
+pub fn look_at_paths(paths: &[Path])
     ensures { IsTrue (list_all is_path paths.now) }
 {
     'paths: for path in paths {
@@ -49,8 +49,8 @@ pub fn keep_rules(
     if !keep_numbers(inputs.len(), outputs.len()) {
         return false;
     }
-    look_at(inputs);
-    look_at(outputs);
+    look_at_paths(inputs);
+    look_at_paths(outputs);
     if !keep_bytes(args, envs) {
         return false;
     }

@@ -11,7 +11,6 @@ ghost use Rattle.thunk_codec.specs.Thunk.{keeps_numbers, keeps_bytes, keeps_orde
 
 use crate::parts::RawParts;
 use crate::path::Path;
-use crate::reference::Ref;
 use object_name::{Bytes, MAX_OUTPUTS};
 
 /// Whether no byte is zero.
@@ -171,7 +170,7 @@ pub fn keep_bytes(args: &[Bytes], envs: &[(Bytes, Bytes)]) -> bool
 }
 
 /// Whether keys and inputs are sorted, and no output is repeated.
-pub fn keep_orders(envs: &[(Bytes, Bytes)], inputs: &[(Path, Ref)], outputs: &[Path]) -> bool
+pub fn keep_orders<T>(envs: &[(Bytes, Bytes)], inputs: &[(Path, T)], outputs: &[Path]) -> bool
     ensures { result ≡ (is_strictly_increasing (map (λ env. env.0) envs.now) && (is_strictly_increasing (map (λ input. input.0) inputs.now) && are_distinct outputs.now)) }
 {
     are_sorted(envs) && (paths_are_sorted(inputs) && paths_are_distinct(outputs))

@@ -14,4 +14,4 @@ returns c =
     c.paths_are_distinct.ensures
     ∙ last_rule c.args.args.now c.args.envs.now c.args.inputs.now c.args.outputs.now
     (sym c.keep_numbers.ensures ∙ c.if-not-keep_numbers.false) (sym c.keep_bytes.ensures ∙ c.if-not-keep_bytes.false)
-    (sym c.are_sorted.ensures ∙ c.if-not-are_sorted.false) (sym c.paths_rise.ensures ∙ c.if-not-paths_rise.false) c.look_at.ensures c.look_at-2.ensures
+    (sym c.are_sorted.ensures ∙ c.if-not-are_sorted.false) (sym c.paths_rise.ensures ∙ c.if-not-paths_rise.false) c.look_at_paths.ensures c.look_at_paths-2.ensures
