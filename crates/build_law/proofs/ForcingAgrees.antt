@@ -11,7 +11,7 @@ use Rattle.thunk_codec.specs.declared.reference.Ref.{Ref}
 use Rattle.thunk_codec.specs.declared.reference.Ref.TheVariants.{Out}
 use Rattle.thunk_codec.specs.declared.job.Outcome.{Outcome}
 use Rattle.thunk_codec.specs.Placeholder.{placeholder_of, placeholder_text}
-use Rattle.thunk_codec.proofs.Placeholders.{placeholder_taken}
+use Rattle.thunk_codec.proofs.PublicLaws.{placeholder_of-text}
 use Rattle.blob_store.specs.Store.{Contents}
 use Rattle.file_tree.specs.Files.{Files, changed, file_read, put_file}
 use Rattle.file_tree.specs.declared.tree.FileRead.TheVariants as reads
@@ -58,7 +58,7 @@ AllWanted f (path ∷ paths) (r ∷ refs) = Wants f path r × AllWanted f paths 
 -- the placeholder of a first output is short
 placeholder-size : (bytes : List ℕ) (output : ObjectName × ℕ) → placeholder_of bytes ≡ Some output → output.1 ≡ 0 → length bytes ≤ max_size
 placeholder-size bytes output found first =
-    let is = placeholder_taken bytes output found in
+    let is = placeholder_of-text bytes output found in
     let text : bytes ≡ placeholder_text output.0 0 = is.text ∙ ap (placeholder_text output.0) first in
     let name : length (spelling output.0) ≡ 52 = length-spelling output.0 is.output.0 in
     let number : length (decimal 0) ≤ 20 = length-decimal-le 20 0 (omega arith) (omega arith) (omega arith) in

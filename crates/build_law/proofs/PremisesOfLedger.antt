@@ -17,7 +17,7 @@ use Rattle.thunk_codec.specs.Reading.{thunk_of}
 use Rattle.thunk_codec.proofs.PublicLaws.{text-thunk_of}
 use Rattle.blob_store.specs.Store.{Contents, Store, held}
 use Rattle.need_eval.specs.Eval.{start}
-use Rattle.need_eval.proofs.JobsOfThunks.{held-named}
+use Rattle.need_eval.proofs.PublicLaws.{held-named}
 use Rattle.file_tree.specs.Files.{Files}
 use Rattle.build_plan.specs.declared.plan.Scanning.{Scanning}
 use Rattle.build_plan.specs.Symbolic.{Work}

@@ -22,8 +22,7 @@ use Rattle.reduction_cache.proofs.PublicLaws.{text-note_of}
 use Rattle.need_eval.specs.declared.fault.Refusal.TheVariants.{Missing, BadThunk, NoOutput, Spent}
 use Rattle.need_eval.specs.Eval.{State, Refused, Ended, Got, Eval, go_on, ◌>>=◌, give, check, need, each, step}
 use Rattle.need_eval.specs.Evaluation.{entered, count_step, outputs_at, passed, value_of, reduce, by_function}
-use Rattle.need_eval.proofs.ValuesAreByNeed.{value_of-is}
-use Rattle.need_eval.proofs.JobsOfThunks.{held-named}
+use Rattle.need_eval.proofs.PublicLaws.{value_of-is, held-named}
 use Rattle.build_plan.specs.Symbolic.{one_output}
 use Rattle.build_law.proofs.Ledger.{Entry, valued, denoted, AreInputs, IsJob, IsEntry, IsLedger, Among, Fair, resolved, resolved_name, value_input, left, unmarked}
 use Rattle.build_law.proofs.ValuesStayHeld.{HoldsAll, More, Good, left-more}

@@ -20,9 +20,7 @@ use Rattle.need_eval.specs.declared.fault.Refusal.TheVariants.{TooBig, Missing}
 use Rattle.need_eval.specs.Eval.{State, Refused, Ended, Got, Eval, go_on, ◌>>=◌, give, check, need, each, make_write, mark}
 use Rattle.need_eval.specs.Evaluation.{object, input_object, job_of, store_one, no_clash, finished, ask, outputs_of, reduce, by_function}
 use Rattle.need_eval.specs.WriteContracts.{after_writes}
-use Rattle.need_eval.proofs.ReadingStops.{job_of-gives, input_object_gives}
-use Rattle.need_eval.proofs.JobsOfThunks.{job-length}
-use Rattle.need_eval.proofs.ObjectIsStored.{after_writes-both}
+use Rattle.need_eval.proofs.PublicLaws.{job_of-gives, input_object_gives, job-length, after_writes-both}
 use Rattle.build_law.proofs.Ledger.{Entry, Among, Fair, resolved, resolved_name, value_input}
 use Rattle.build_law.proofs.ValuesStayHeld.{Reduced, HoldsAll, More, Good, good-value, good-note, marked, more-marked, stores, same-name}
 use Rattle.build_law.proofs.ThunksOfLedger.{Alone}

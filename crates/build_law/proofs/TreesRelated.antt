@@ -9,7 +9,7 @@ use Rattle.object_name.specs.Name.{ObjectName, max_size}
 use Rattle.thunk_codec.specs.declared.reference.Ref.TheVariants.{Out}
 use Rattle.thunk_codec.specs.Reference.{IsRef}
 use Rattle.thunk_codec.specs.Placeholder.{placeholder_of, placeholder_text}
-use Rattle.thunk_codec.proofs.Placeholders.{placeholder_taken, placeholder_again}
+use Rattle.thunk_codec.proofs.PublicLaws.{placeholder_of-text, text-placeholder_of}
 use Rattle.file_tree.specs.Files.{Files, file_read}
 use Rattle.file_tree.specs.declared.tree.FileRead.TheVariants as reads
 use Rattle.file_tree.specs.declared.refusal.FileRefusal.{FileRefusal}
@@ -127,7 +127,7 @@ item-at L (step ∷ steps) later (i ∷ is) (c ∷ cs) (suc k) h untaken = item-
 pub file-of-item : (L : List Entry) (i : Gathered) (c : List ℕ) → ItemRel L i c → FileRel L (Some (item_bytes i)) (Some c)
 file-of-item L (Plain b) c h = subst (Denoting L b c) (sym h.3) h.0
 file-of-item L (Output name k) c h =
-    subst (Denoting L (placeholder_text name k) c) (sym (placeholder_again (placeholder_text name k) name k (record { output = h.2; text = refl }))) (h.0, h.1)
+    subst (Denoting L (placeholder_text name k) c) (sym (text-placeholder_of (placeholder_text name k) name k (record { output = h.2; text = refl }))) (h.0, h.1)
 
 file-of-gathered : (L : List Entry) (taken : Bool) (i : Gathered) (c : List ℕ) → GatheredRel L taken i c → FileRel L (Some (item_bytes i)) (Some c)
 file-of-gathered L true i c h = h
@@ -204,7 +204,7 @@ read-rel L path x y i c rel sym_is once_is =
     by a b h (inl p) = subst (λ (i : Gathered). ItemRel L i c) (sym p.2) (subst (Denoting L a.bytes c) p.0 h, a.small, p.1, p.0)
     by a b h (inr p) =
         let d : Denoting L a.bytes c (Some p.0) = subst (Denoting L a.bytes c) p.1 h in
-        subst (λ (i : Gathered). ItemRel L i c) (sym p.2) (d.0, d.1, (placeholder_taken a.bytes p.0 p.1).output)
+        subst (λ (i : Gathered). ItemRel L i c) (sym p.2) (d.0, d.1, (placeholder_of-text a.bytes p.0 p.1).output)
 
 -- ---- a file is taken on both sides
 

@@ -1,30 +1,28 @@
 //! A copy of what a walker waits for.
 
-use need_eval::Prepared;
-use object_name::{Bytes, Many, TryCopy};
-use std::alloc::Global;
+use crate::texts::first_outputs;
+use crate::told::{OWN_TEXT, holding};
+use need_eval::Walker;
+use object_name::{TryCopy, name_of};
 use std::test::Fail;
-use thunk_codec::Job;
-
-/// A job without inputs.
-fn job_of(alloc: Global, function: Bytes) -> Job {
-    Job {
-        function,
-        args: Many::new(alloc),
-        envs: Many::new(alloc),
-        inputs: Many::new(alloc),
-        outputs: Many::new(alloc),
-    }
-}
 
 #[test]
 fn a_prepared_job_is_copied(rt: HostRuntime) -> Result<(), Fail> {
-    let function = Bytes::from_slice(rt.alloc(), b"f")?;
-    let prepared = Prepared {
-        text: Bytes::new(rt.alloc()),
-        job: job_of(rt.alloc(), function),
+    let Ok(name) = name_of(OWN_TEXT) else {
+        return Ok(());
+    };
+    let mut keeper = holding(rt.alloc(), name)?;
+    let refs = first_outputs(rt.alloc(), &[name])?;
+    let mut walker = Walker::new(rt.alloc(), refs, 3, 0)?;
+    if walker.advance(rt.alloc(), &mut keeper).is_err() {
+        return Ok(());
+    }
+    assert!(rt; walker.blocked().is_some());
+    let Some(prepared) = walker.blocked() else {
+        return Ok(());
     };
     let copy = prepared.copy(rt.alloc())?;
-    assert_eq!(rt; copy.job.function.as_slice(), b"f".as_slice());
+    assert_eq!(rt; copy.text.as_slice(), OWN_TEXT);
+    assert_eq!(rt; copy.job.outputs.len(), 1);
     Ok(())
 }

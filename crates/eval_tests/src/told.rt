@@ -11,7 +11,7 @@ use std::test::Fail;
 use thunk_codec::{Function, Job, Outcome, Runner};
 
 /// The text of a thunk whose function is the object without bytes, and which has one output.
-const OWN_TEXT: &[u8] =
+pub const OWN_TEXT: &[u8] =
     b"gg-thunk 1\nf V47DEQpj8HBSa-_TImW-5JCeuQeRkm5NMpJWZG3hSuFU00000000\no 3:out\nend\n";
 
 /// Gives the text of that thunk for each job with one output, and fails else.
@@ -40,7 +40,7 @@ impl Runner for Own {
 }
 
 /// A keeper that holds that thunk and its function.
-fn holding(alloc: Global, name: Name) -> Result<MemKeeper, AllocError> {
+pub fn holding(alloc: Global, name: Name) -> Result<MemKeeper, AllocError> {
     let mut objects = Many::new(alloc);
     if let Ok(empty) = name_of(b"") {
         objects.push((empty, Bytes::new(alloc)))?;

@@ -8,3 +8,4 @@ pub mod QueueKeepsWaiting
 pub mod VisitedLineByLine
 pub mod GatheredFileByFile
 pub mod ListedInOrder
+pub mod PublicLaws

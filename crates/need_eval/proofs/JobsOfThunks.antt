@@ -9,7 +9,7 @@ use Rattle.thunk_codec.specs.declared.job.Job.{Job}
 use Rattle.thunk_codec.specs.declared.reference.Ref.{Ref}
 use Rattle.thunk_codec.specs.Thunk.{Parts}
 use Rattle.thunk_codec.specs.Resolved.{refs_of}
-use Rattle.thunk_codec.specs.Job.{ref_name, job_size, size_by_lengths, resolved_size}
+use Rattle.thunk_codec.specs.Job.{ref_name, job_size, size_by_lengths, resolved_size, with_length, with_size}
 use Rattle.thunk_codec.proofs.PublicLaws.{job_size_by_lengths}
 use Rattle.blob_store.specs.Store.{Contents, if_named, held}
 use Rattle.object_name.proofs.PublicLaws.{eq_by_cmp-name}
@@ -69,14 +69,6 @@ need-given None why s x t is = absurd (stopped-got why s x t is)
 object-size : (name : ObjectName) (bytes : List ℕ) (s t : State) → object name s ≡ Got bytes t → length bytes ≡ name.size
 object-size name bytes s t is =
     ap (λ name. name.size) (held-named s.store.objects name bytes (need-given (held s.store.objects name) (Refused (Missing name)) s bytes t is).0)
-
--- an input's place and length
-abbrev with_length : List ℕ × List ℕ → List ℕ × ℕ
-with_length input = (input.0, length input.1)
-
--- the same by the size in its name
-abbrev with_size : List ℕ × Ref → List ℕ × ℕ
-with_size input = (input.0, (ref_name input.1).size)
 
 input-length : (input : List ℕ × Ref) (read : List ℕ × List ℕ) (s t : State) → input_object input s ≡ Got read t → with_length read ≡ with_size input
 input-length input read s t is =

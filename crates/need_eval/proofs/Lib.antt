@@ -27,6 +27,7 @@ pub mod ObjectIsStored
 pub mod OutputsAreWritten
 pub mod OutcomeIsSupplied
 pub mod NameEquality
+pub mod PreparedIsSmall
 pub mod Places
 pub mod HitsAreHeld
 pub mod StoringCases

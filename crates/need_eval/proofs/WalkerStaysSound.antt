@@ -1,6 +1,6 @@
 -- Keeping what a walker has gathered in order.
-use Rattle.std.proofs.Common.{◌≡◌, ◌<◌, ◌+◌, ℕ, List, [], ◌∷◌, ◌++◌, length, true, IsTrue, Some, refl, sym, ap, subst, ◌∙◌, arith, rules}
-use Rattle.std.specs.Prelude.{◌==◌}
+use Rattle.std.proofs.Common.{◌≡◌, ◌<◌, ◌+◌, ℕ, List, [], ◌∷◌, ◌++◌, length, drop, true, IsTrue, Some, Result, Ok, Err, refl, sym, ap, subst, ◌∙◌, arith, rules}
+use Rattle.std.specs.Prelude.{◌==◌, OnOk, OnErr}
 use Rattle.std.specs.List.{list_all, AllByRecursion}
 use Rattle.std.proofs.lemmas.Bool.{and_parts, and_from, false≢true}
 use Rattle.std.proofs.lemmas.List.{length_push}
@@ -65,6 +65,14 @@ pub sound-value : (frames : List Frame) (done : List ObjectName) (name : ObjectN
 sound-value frames done name rest h =
     let s = IsSound-parts frames done (Value name ∷ rest) h in
     sound-gather frames done (Value name) rest name (and_parts (is_value_kind name.kind) (list_all has_right_kind rest) s.kinds).0 h
+
+-- a value that is next, taken or left
+pub sound-gathering : {A E : Type 0} (result : Result A E) (frames : List Frame) (done done_now : List ObjectName) (rest rest_now : List Ref) (name : ObjectName) → rest ≡ Value name ∷ drop 1 rest
+    → OnOk result (done_now ≡ done ++ name ∷ []) → OnOk result (rest_now ≡ drop 1 rest) → OnErr result (done_now ≡ done) → OnErr result (rest_now ≡ rest)
+    → IsTrue (is_sound frames done rest) → IsTrue (is_sound frames done_now rest_now)
+sound-gathering (Ok x) frames done done_now rest rest_now name next taken left same stays h =
+    (λ i. is_sound frames (taken i) (left i)) ∙ sound-value frames done name (drop 1 rest) (subst (λ (rest : List Ref). IsTrue (is_sound frames done rest)) next h)
+sound-gathering (Err fault) frames done done_now rest rest_now name next taken left same stays h = (λ i. is_sound frames (same i) (stays i)) ∙ h
 
 -- an output in place of a REF that was next
 pub sound-pass : (frames : List Frame) (done : List ObjectName) (r : Ref) (name : ObjectName) (index : ℕ) (rest : List Ref) → IsTrue (is_sound frames done (r ∷ rest)) → IsTrue (is_sound frames done (Out name index ∷ rest))

@@ -1,6 +1,7 @@
 //! The job of a thunk whose references are all values.
 
-ghost use Rattle.std.specs.Prelude.{◌≡◌, IfOk};
+ghost use Rattle.std.specs.Prelude.{◌≡◌, IfOk, map};
+ghost use Rattle.thunk_codec.specs.Job.{IsJobOf, with_length, with_size};
 ghost use Rattle.need_eval.specs.Eval.{State, each};
 ghost use Rattle.need_eval.specs.Evaluation.{input_object, job_of};
 ghost use Rattle.need_eval.specs.StepContracts.{Reads, OnlyReads};
@@ -32,6 +33,7 @@ fn input_object<K: Keeper>(
     retries: u32,
 ) -> Result<(Path, Bytes), EvalFault>
     ensures reads { K.tells → (s : State) → s.store ≡ K.store keeper.old → Reads (λ read. read) (input_object (path.now, reference.now) s) s result }
+    ensures sized { IfOk result (λ read. with_length read ≡ with_size (path.now, reference.now)) }
     ensures only_reads { OnlyReads K.tells K.store K.writes K.faults K.calls keeper.old keeper.new retries result }
 {
     let bytes = object(alloc, keeper, reference.name(), retries)?;
@@ -47,6 +49,7 @@ fn input_objects<K: Keeper>(
     retries: u32,
 ) -> Result<Many<(Path, Bytes)>, EvalFault>
     ensures reads { K.tells → (s : State) → s.store ≡ K.store keeper.old → Reads (λ read. read) (each input_object inputs.now s) s result }
+    ensures sized { IfOk result (λ read. map with_length read ≡ map with_size inputs.now) }
     ensures only_reads { OnlyReads K.tells K.store K.writes K.faults K.calls keeper.old keeper.new retries result }
 {
     let mut read = Many::new(alloc);
@@ -65,7 +68,7 @@ pub fn job_of<K: Keeper>(
     retries: u32,
 ) -> Result<Job, EvalFault>
     ensures reads { K.tells → (s : State) → s.store ≡ K.store keeper.old → Reads (λ job. job) (job_of thunk.now s) s result }
-    ensures outputs { IfOk result (λ job. job.outputs ≡ thunk.now.outputs) }
+    ensures parts { IfOk result (λ job. IsJobOf thunk.now job) }
     ensures only_reads { OnlyReads K.tells K.store K.writes K.faults K.calls keeper.old keeper.new retries result }
 {
     let function = object(alloc, keeper, thunk.function().name(), retries)?;

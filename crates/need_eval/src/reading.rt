@@ -24,6 +24,7 @@ pub fn object<K: Keeper>(
     retries: u32,
 ) -> Result<Bytes, EvalFault>
     ensures reads { K.tells → (s : State) → s.store ≡ K.store keeper.old → Reads (λ bytes. bytes) (object name.now s) s result }
+    ensures named { IfOk result (λ bytes. name_of bytes ≡ name.now) }
     ensures only_reads { OnlyReads K.tells K.store K.writes K.faults K.calls keeper.old keeper.new retries result }
 {
     match fetch(alloc, keeper, name, retries) {

@@ -48,9 +48,11 @@ pub enum Walked {
 }
 
 impl Walker {
-    ghost use Rattle.std.specs.Prelude.{◌≡◌, ◌≤◌, ◌<◌, true, IfOk, OnOk, OnErr, IfSome, IsSome};
+    ghost use Rattle.std.specs.Prelude.{◌≡◌, ◌≤◌, ◌<◌, true, length, IfOk, OnOk, OnErr, IfSome, IsSome, IsTrue};
     ghost use Rattle.std.specs.Option.{option_map};
     ghost use Rattle.std.specs.List.{AllByRecursion};
+    ghost use Rattle.object_name.specs.Name.{max_size};
+    ghost use Rattle.thunk_codec.specs.Job.{job_keeps_rules, job_size, max_job};
     ghost use Rattle.thunk_codec.specs.Reference.{IsRef};
     ghost use Rattle.thunk_codec.specs.Outcome.{Fits};
     ghost use Rattle.blob_store.specs.Keeping.{kept};
@@ -135,8 +137,12 @@ impl Walker {
     }
 
     /// The job whose outcome is waited for, and the text of its thunk.
+    #[tactic(auto, using(crate::proofs::PreparedIsSmall::within_limits, crate::proofs::PreparedIsSmall::keeps_rules))]
     pub fn blocked(&self) -> Option<&Prepared>
-        ensures { option_map (λ prepared. prepared.now) result ≡ blocked_at self.now }
+        ensures waits { option_map (λ prepared. prepared.now) result ≡ blocked_at self.now }
+        // Whatever the keeper told: text and job are within their limits, and the job keeps the rules of a job.
+        ensures limits { IfSome (blocked_at self.now) (λ prepared. (length prepared.text ≤ max_size) × (job_size prepared.job ≤ max_job)) }
+        ensures rules { IfSome (blocked_at self.now) (λ prepared. IsTrue (job_keeps_rules prepared.job)) }
     {
         match &self.stage {
             Stage::Blocked(waiting) => Some(&waiting.prepared),

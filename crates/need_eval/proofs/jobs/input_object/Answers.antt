@@ -12,3 +12,8 @@ pub returns-clause-reads : goal.returns-clause-reads
 returns-clause-reads g c = λ told s here.
     let gives = rw c.name.ensures at (c.in_ok-bytes.ensures.reads told s here) in
     input_object_gives (c.args.path.now, c.args.reference.now) s c.in_ok-path.path c.in_ok-bytes.bytes c.in_ok-path.ensures gives
+
+pub returns-clause-sized : goal.returns-clause-sized
+returns-clause-sized g c =
+    let named = rw c.name.ensures at c.in_ok-bytes.ensures.named in
+    λ i. (c.in_ok-path.ensures i, (named i).size)

@@ -1,4 +1,4 @@
-use Rattle.std.proofs.Common.{sym, ◌∙◌}
+use Rattle.std.proofs.Common.{sym, ap, ◌∙◌}
 use Rattle.std.proofs.lemmas.Result.{err_from_is_err_and}
 use Rattle.need_eval.proofs.ReadingStops.{job_of-function, job_of-inputs, job_of-gives}
 use Rattle.need_eval.proofs.jobs.job_of.Goals as goal
@@ -23,3 +23,12 @@ returns-clause-reads g c = λ told s here.
     job_of-gives c.args.thunk.now s
     (record { function = c.in_ok-function.function; args = c.in_ok-args.args; envs = c.in_ok-envs.envs; inputs = c.in_ok-inputs.inputs; outputs = c.in_ok-outputs.outputs })
     function inputs (c.in_ok-args.ensures ∙ c.args-2.ensures) (c.in_ok-envs.ensures ∙ c.envs.ensures) (c.in_ok-outputs.ensures ∙ c.outputs.ensures)
+
+pub returns-clause-parts : goal.returns-clause-parts
+returns-clause-parts g c = record {
+  function = ap (λ name. name.size) (rw (c.name.ensures, c.function.ensures.function) at c.in_ok-function.ensures.named);
+  args = c.in_ok-args.ensures ∙ c.args-2.ensures;
+  envs = c.in_ok-envs.ensures ∙ c.envs.ensures;
+  inputs = rw c.inputs.ensures at c.in_ok-inputs.ensures.sized;
+  outputs = c.in_ok-outputs.ensures ∙ c.outputs.ensures;
+}
