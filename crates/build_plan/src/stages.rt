@@ -1,9 +1,8 @@
 //! Stages: thunks of the runs of tools.
 
-ghost use Rattle.std.specs.Prelude.{◌≡◌, ◌++◌, ◌≤◌, ℕ, List, [], IfOk, IsTrue, All, length, map, true};
-ghost use Rattle.std.specs.List.{AllByRecursion, list_all};
+ghost use Rattle.std.specs.Prelude.{◌≡◌, ◌++◌, ◌≤◌, ℕ, List, [], IfOk, All, length, map, true};
+ghost use Rattle.std.specs.List.{AllByRecursion};
 ghost use Rattle.thunk_codec.specs.Fitting.{AreFit};
-ghost use Rattle.thunk_codec.specs.Path.{is_path};
 ghost use Rattle.thunk_codec.specs.Reference.{IsRef};
 ghost use Rattle.blob_store.specs.Keeping.{kept};
 ghost use Rattle.file_tree.specs.Files.{Files, Filed, filed_in};
@@ -27,7 +26,7 @@ use file_tree::{ApplyFault, Tree};
 use include_scan::scan;
 use object_name::{Bytes, Many};
 use std::alloc::{AllocError, Global};
-use thunk_codec::{Path, Ref};
+use thunk_codec::{Path, Ref, look_at_paths};
 
 /// The name of the one output of a thunk of a plan.
 const OUTPUT: &[u8] = b"out";
@@ -92,15 +91,6 @@ pub(crate) fn run_tool<T: Tree, K: Keeper>(
     store_stage(alloc, Ref::Value(card), args, refs, keeper, retries)
 }
 
-/// Looks at some paths, whose type says of each that it is canonical.
-fn look_at(paths: &[Path])
-    ensures { IsTrue (list_all is_path paths.now) }
-{
-    'paths: for path in paths {
-        let _text = path.text();
-    }
-}
-
 /// The files of a scanned source.
 fn scanned<T: Tree>(
     alloc: Global,
@@ -140,7 +130,7 @@ pub(crate) fn run_scanning<T: Tree, K: Keeper>(
     ensures fares { Fares K.tells T.tells K.calls K.faults T.calls T.faults retries keeper.old keeper.new tree.old tree.new result }
 {
     let paths = scanned(alloc, scanning, tree, retries)?;
-    look_at(paths.as_slice());
+    look_at_paths(paths.as_slice());
     let inputs = file_inputs(alloc, paths.as_slice())?;
     run_tool(
         alloc,

@@ -14,7 +14,7 @@ use Rattle.model_binutils.specs.declared.bin_plan.BinPlan.TheVariants.{Ar, Ranli
 use Rattle.model_binutils.specs.declared.command.Command.{Command}
 use Rattle.model_binutils.specs.declared.command.Command.TheVariants as commands
 use Rattle.model_binutils.specs.declared.operand.Operand.TheVariants.{File, Member}
-use Rattle.model_binutils.specs.Members.{is_member_name}
+use Rattle.tool_bin.specs.Archive.{is_member_name}
 use Rattle.model_binutils.specs.Words.{path_at, operand_at, first_path, one_path, operands_after, operands_from}
 use Rattle.model_binutils.specs.Plan.{Planning, max_files, is_within, limited, plan_by, plan_of, command_of, letters_of, are_letters, has_replace, has_table, insertion_plan, table_plan, archive_plan, ar_plan, ranlib_path, is_strip_option, strip_into, strip_in_place, strip_plan, two_paths, remove_plan}
 use Rattle.model_binutils.specs.PlanOf.{IsPlanned}

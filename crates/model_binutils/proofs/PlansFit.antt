@@ -17,7 +17,7 @@ use Rattle.build_plan.specs.Symbolic.{one_output}
 use Rattle.build_plan.proofs.PublicLaws.{numbers_rise, stage_fits}
 use Rattle.model_binutils.specs.declared.bin_plan.BinPlan.{BinPlan}
 use Rattle.model_binutils.specs.declared.bin_plan.BinPlan.TheVariants.{Ar, Ranlib, Strip, Copy, Move, Remove, Nothing}
-use Rattle.model_binutils.specs.Members.{is_member_byte, is_member_name}
+use Rattle.tool_bin.specs.Archive.{is_member_name, is_name_byte}
 use Rattle.model_binutils.specs.Plan.{max_members, plan_of}
 use Rattle.model_binutils.specs.PlanOf.{IsPlanned, run_over, member_input, member_inputs, insertion_letters, insertion, strip_step, stripped_path, build_of}
 use Rattle.model_binutils.proofs.InputPaths.{old_is_path, member_is_path}
@@ -40,25 +40,23 @@ over_fits tool args input path target card plain short normal = record {
 -- what a name of a member is
 record IsName (name : List ℕ) : Type 0 where
   short : length name ≤ 15
-  bytes : list_all is_member_byte name ≡ true
+  bytes : list_all is_name_byte name ≡ true
 
 name_is : (name : List ℕ) → is_member_name name ≡ true → IsName name
-unfolding is_member_name
 name_is name h =
-    let a = and_parts (leb 1 (length name) && leb (length name) 15) (list_all is_member_byte name) h in
-    let b = and_parts (leb 1 (length name)) (leb (length name) 15) a.0 in
-    record { short = leb-true _ _ b.1; bytes = a.1 }
+    let a = and_parts (leb 1 (length name)) (leb (length name) 15 && list_all is_name_byte name) h in
+    let b = and_parts (leb (length name) 15) (list_all is_name_byte name) a.1 in
+    record { short = leb-true _ _ b.0; bytes = b.1 }
 
-byte_not_zero : (byte : ℕ) → is_member_byte byte ≡ true → not (byte == 0) ≡ true
+byte_not_zero : (byte : ℕ) → is_name_byte byte ≡ true → not (byte == 0) ≡ true
 byte_not_zero byte h =
-    let a = and_parts (leb 33 byte && leb byte 126) (not (byte == 47)) h in
-    let low = leb-true 33 byte (and_parts (leb 33 byte) (leb byte 126) a.0).0 in
+    let low = leb-true 33 byte (and_parts (leb 33 byte) (leb byte 126 && not (byte == 47)) h).0 in
     ap not (ne_eqb byte 0 (λ is. omega (arith, low, is)))
 
-name_plain : (name : List ℕ) → list_all is_member_byte name ≡ true → has_no_zero name ≡ true
+name_plain : (name : List ℕ) → list_all is_name_byte name ≡ true → has_no_zero name ≡ true
 name_plain [] h = refl
 name_plain (byte ∷ name) h =
-    let parts = and_parts (is_member_byte byte) (list_all is_member_byte name) h in
+    let parts = and_parts (is_name_byte byte) (list_all is_name_byte name) h in
     and_from _ _ (byte_not_zero byte parts.0) (name_plain name parts.1)
 
 names_plain : (members : List (List ℕ)) → list_all is_named members ≡ true → list_all has_no_zero (map last_of members) ≡ true

@@ -1,4 +1,3 @@
-pub mod Members
 pub mod Words
 pub mod Plan
 pub mod PlanOf

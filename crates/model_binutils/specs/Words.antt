@@ -9,7 +9,7 @@ use Rattle.thunk_codec.specs.Folder.{last_of}
 use Rattle.thunk_codec.specs.Path.{path_of}
 use Rattle.model_binutils.specs.declared.operand.Operand.{Operand}
 use Rattle.model_binutils.specs.declared.operand.Operand.TheVariants.{File, Member}
-use Rattle.model_binutils.specs.Members.{is_member_name}
+use Rattle.tool_bin.specs.Archive.{is_member_name}
 
 -- whether a word is an option
 abbrev pub is_option : List ℕ → Bool

@@ -7,8 +7,8 @@ ghost use Rattle.model_binutils.specs.Plan.{letters_of, is_letter, has_replace, 
 
 use crate::bin_plan::BinPlan;
 use crate::operand::Operand;
-use crate::words::{after_first, first_path, is_option, one_path, operands_from, refused_at};
-use file_tree::{PlanFault, Reason};
+use crate::words::{after_first, first_path, is_option, one_path, operands_from};
+use file_tree::{PlanFault, Reason, refused_at};
 use object_name::{Bytes, Many};
 use std::alloc::Global;
 use thunk_codec::Path;

@@ -5,8 +5,7 @@ ghost use Rattle.file_tree.specs.Planning.{Finds};
 ghost use Rattle.model_binutils.specs.Plan.{is_within, limited};
 
 use crate::bin_plan::BinPlan;
-use crate::words::refused_at;
-use file_tree::{PlanFault, Reason};
+use file_tree::{PlanFault, Reason, refused_at};
 
 /// The most files.
 const MAX_FILES: usize = 4096;

@@ -10,8 +10,7 @@ use crate::command::{Command, command_of};
 use crate::limits::limited;
 use crate::strip_words::strip_plan;
 use crate::tree_words::{copy_plan, move_plan, remove_plan};
-use crate::words::refused_at;
-use file_tree::{PlanFault, Reason};
+use file_tree::{PlanFault, Reason, refused_at};
 use object_name::Bytes;
 use std::alloc::Global;
 

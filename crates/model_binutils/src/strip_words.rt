@@ -6,8 +6,8 @@ ghost use Rattle.model_binutils.specs.Plan.{is_strip_option, strip_into, strip_i
 
 use crate::bin_plan::BinPlan;
 use crate::operand::Operand;
-use crate::words::{after_first, first_path, one_path, operands_from, place_after};
-use file_tree::PlanFault;
+use crate::words::{after_first, first_path, one_path, operands_from};
+use file_tree::{PlanFault, place_after};
 use object_name::{Bytes, Many};
 use std::alloc::Global;
 

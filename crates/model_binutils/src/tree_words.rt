@@ -6,8 +6,8 @@ ghost use Rattle.model_binutils.specs.Plan.{two_paths, copy_plan, move_plan, rem
 
 use crate::bin_plan::BinPlan;
 use crate::operand::Operand;
-use crate::words::{after_first, first_path, no_word, operands_from, refused_at};
-use file_tree::{PlanFault, Reason};
+use crate::words::{after_first, first_path, no_word, operands_from};
+use file_tree::{PlanFault, Reason, refused_at};
 use object_name::Bytes;
 use std::alloc::Global;
 use thunk_codec::Path;

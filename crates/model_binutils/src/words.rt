@@ -1,33 +1,15 @@
 //! Words of a command, each at its place.
 
 ghost use Rattle.std.specs.Prelude.{◌≡◌, [], drop, IfOk};
-ghost use Rattle.std.specs.List.{list_all};
-ghost use Rattle.file_tree.specs.Planning.{Finds, place_after};
-ghost use Rattle.model_binutils.specs.Members.{is_member_byte, is_member_name};
+ghost use Rattle.file_tree.specs.Planning.{Finds};
 ghost use Rattle.model_binutils.specs.Words.{is_option, path_at, operand_at, first_path, no_word, one_path, operands_after, operands_from};
 
 use crate::operand::Operand;
-use file_tree::{PlanFault, Reason};
+use file_tree::{PlanFault, Reason, place_after, refused_at};
 use object_name::{Bytes, Many};
 use std::alloc::Global;
 use thunk_codec::Path;
-
-/// The greatest length of a member's name.
-const MAX_MEMBER_NAME: usize = 15;
-
-/// The word at a place is refused.
-pub(crate) fn refused_at(at: u32, reason: Reason) -> PlanFault
-    ensures { result ≡ PlanFault.Refused at reason }
-{
-    PlanFault::Refused { at, reason }
-}
-
-/// The place after one.
-pub(crate) fn place_after(at: u32) -> u32
-    ensures { result ≡ place_after at }
-{
-    at.saturating_add(1)
-}
+use tool_bin::is_member_name;
 
 /// The words after the first.
 pub(crate) fn after_first(words: &[Bytes]) -> &[Bytes]
@@ -44,28 +26,6 @@ pub(crate) fn is_option(word: &[u8]) -> bool
     ensures { result ≡ is_option word.now }
 {
     word.starts_with(b"-")
-}
-
-/// Whether a member's name may have a byte.
-fn is_member_byte(byte: u8) -> bool
-    ensures { result ≡ is_member_byte byte }
-{
-    33 <= byte && byte <= 126 && byte != b'/'
-}
-
-/// Whether it may have all bytes of a text.
-fn are_member_bytes(text: &[u8]) -> bool
-    ensures { result ≡ list_all is_member_byte text.now }
-{
-    text.iter().all(|byte| is_member_byte(*byte))
-}
-
-/// Whether a member may have a name.
-#[tactic(auto, unfolding(crate::specs::Members::is_member_name))]
-fn is_member_name(name: &[u8]) -> bool
-    ensures { result ≡ is_member_name name.now }
-{
-    1 <= name.len() && name.len() <= MAX_MEMBER_NAME && are_member_bytes(name)
 }
 
 /// A word where a path is wanted.

@@ -8,19 +8,12 @@ ghost use Rattle.model_gcc.specs.Plan.{plan_with, planned, plan_of};
 use crate::checks::{first_unfit, has_file, is_within, needs_output, shared_output};
 use crate::gcc_plan::{GccPlan, Stop};
 use crate::slots::Slots;
-use file_tree::{PlanFault, Reason};
+use file_tree::{PlanFault, Reason, refused_at};
 use object_name::Bytes;
 use std::alloc::Global;
 
 /// The place of the command's own word.
 const OWN_WORD: u32 = 0;
-
-/// The word at a place is refused.
-fn refused_at(at: u32, reason: Reason) -> PlanFault
-    ensures { result ≡ PlanFault.Refused at reason }
-{
-    PlanFault::Refused { at, reason }
-}
 
 /// What is given, as a plan.
 fn plan_with(given: Slots) -> GccPlan

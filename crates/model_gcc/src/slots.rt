@@ -2,14 +2,14 @@
 
 ghost use Rattle.std.specs.Prelude.{◌≡◌, Some, Ok};
 ghost use Rattle.model_gcc.specs.Slots.{no_words, refusal, stages_to, with_operand, with_value, with_option, with_output, with_stop, with_passed_word, with_file, with_class, with_word, with_words};
-ghost use Rattle.file_tree.specs.Planning.{Finds, place_after};
+ghost use Rattle.file_tree.specs.Planning.{Finds};
 
 use crate::gcc_plan::{Operand, Stop};
 use crate::values::{
     after_option, definition, joined, library_name, macro_name, operand_at, passed_word,
 };
 use crate::word_class::{Key, WordClass, class_of};
-use file_tree::{PlanFault, Reason};
+use file_tree::{PlanFault, Reason, place_after};
 use object_name::{Bytes, Many};
 use std::alloc::Global;
 use thunk_codec::{Folder, Path};
@@ -32,13 +32,6 @@ pub(crate) struct Slots {
     pub(crate) operands: Many<Operand>,
     /// The place of each operand.
     pub(crate) places: Many<u32>,
-}
-
-/// The place after one.
-fn place_after(at: u32) -> u32
-    ensures { result ≡ place_after at }
-{
-    at.saturating_add(1)
 }
 
 /// The number of stages up to a stop.

@@ -29,6 +29,7 @@ mod symbol_table;
 
 pub use ar_tool::{ar, ranlib};
 pub use archive::{Archive, Member, read_archive};
+pub use archive_reading::is_member_name;
 pub use as_tool::as_;
 pub use cc1_tool::cc1;
 pub use instruction::Instruction;

@@ -40,7 +40,7 @@ run_tool-requires g c = record {
   items = λ k d low. absurd (omega (arith, low));
   card = subst (λ (tool : List ℕ). IsCardName tool) (sym c.as_slice-3.ensures) c.requires.card;
   fits = λ files. scanned-fits c.args.scanning.now.args c.in_ok-paths.paths c.as_slice-4.result.now (c.as_slice-4.ensures ∙ c.in_ok-inputs.ensures ∙ ap (map file_input) c.as_slice-2.ensures)
-      (c.requires.parts c.in_ok-paths.paths (subst (λ (paths : List (List ℕ)). list_all is_path paths ≡ true) c.as_slice.ensures c.look_at.ensures) c.in_ok-paths.ensures.rising c.in_ok-paths.ensures.limit);
+      (c.requires.parts c.in_ok-paths.paths (subst (λ (paths : List (List ℕ)). list_all is_path paths ≡ true) c.as_slice.ensures c.look_at_paths.ensures) c.in_ok-paths.ensures.rising c.in_ok-paths.ensures.limit);
 }
 
 pub returns-clause-goes : goal.returns-clause-goes
