@@ -35,10 +35,12 @@ GROUPS = [
     ("Files", ["file_tree"]),
     ("Evaluation", ["need_eval"]),
     ("Cards", ["tool_text", "tool_bin", "sandbox_run"]),
-    ("Models", ["include_scan", "build_plan", "model_gcc"]),
+    ("Models", ["include_scan", "build_plan", "model_gcc", "model_binutils"]),
+    ("Scripts", ["build_script"]),
     ("Answer", ["gg_cli"]),
     ("Ends", ["object_name/specs/Causes.antt", "object_name/specs/Streams.antt",
-              "object_name/src/sink.rt", "gg_cli/specs/Comes.antt"]),
+              "object_name/src/sink.rt", "object_name/src/source.rt", "gg_cli/specs/InputText.antt",
+              "gg_cli/specs/Comes.antt"]),
 ]
 
 # A definition: where it stands, what it means, how many lines it has, and what is to be searched

@@ -21,7 +21,7 @@ use Rattle.tool_text.specs.Preprocess.{preprocessed}
 use Rattle.sandbox_run.specs.Cards.{within_limit, tool_outcome, card_outcome}
 use Rattle.include_scan.specs.Scanned.{Suffices, bytes_at, inputs_of}
 use Rattle.include_scan.specs.Scanning.{scanned_paths, refusal_of, refusal_of_read}
-use Rattle.include_scan.proofs.ScannedFilesSuffice.{paths_suffice, paths_scanned}
+use Rattle.include_scan.proofs.PublicLaws.{paths_suffice, paths_scanned}
 use Rattle.build_plan.specs.declared.plan.Scanning.{Scanning}
 use Rattle.build_plan.specs.Doing.{Got, ◌>>=◌, each, give, go_on, unless}
 use Rattle.build_plan.specs.Way.{file_input, scanned_stage}

@@ -14,4 +14,5 @@ pub mod BytesAreFound
 pub mod ToolsAreRun
 pub mod PlanAtOnce
 pub mod LinesInOrder
+pub mod AtOnceAdds
 pub mod PublicLaws

@@ -4,4 +4,6 @@
 -- files are those with all writes and changes
 pub use Rattle.build_script.proofs.SymbolicAdds.{after, moved, IsMade, Adds, adds-done, after-begun}
 -- so do lines; and lines after others are those of both lists, by any way
-pub use Rattle.build_script.proofs.ScriptAdds.{lines-append, moved_end, lines-move, lines-make}
+pub use Rattle.build_script.proofs.ScriptAdds.{lines-append, moved_end, command-moves, lines-move, lines-make}
+-- the same of lines built at once
+pub use Rattle.build_script.proofs.AtOnceAdds.{ran_after, ran_moved, HasChanged, ran-after-start, ran-line-moves, ran-lines-make}

@@ -33,7 +33,8 @@ line_end-moves : {A : Type 0} (number : ℕ) (words : List (List ℕ)) (base : W
 line_end-moves number words base (Got x s) = refl
 line_end-moves number words base (Stopped why s) = refl
 
-command-moves : (number : ℕ) (command : Result (Option LineCommand) Halt) (base s : Work)
+-- a line's command goes on from earlier lines as from the start
+pub command-moves : (number : ℕ) (command : Result (Option LineCommand) Halt) (base s : Work)
     → command_done symbolic number command (after base s) ≡ moved_end 0 base (command_done symbolic number command s)
 command-moves number (Ok None) base s = refl
 command-moves number (Ok (Some command)) base s =

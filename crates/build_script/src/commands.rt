@@ -11,7 +11,7 @@ use object_name::Bytes;
 use std::alloc::Global;
 
 /// The command's own word, the first; empty where there is none.
-pub(crate) fn own_word(words: &[Bytes]) -> &[u8]
+pub fn own_word(words: &[Bytes]) -> &[u8]
     ensures { result.now ≡ own_word words.now }
 {
     match words.split_first() {
@@ -21,7 +21,7 @@ pub(crate) fn own_word(words: &[Bytes]) -> &[u8]
 }
 
 /// The word at a place, or the command's own where the place is behind the last.
-pub(crate) fn word_at(words: &[Bytes], place: u32) -> &[u8]
+pub fn word_at(words: &[Bytes], place: u32) -> &[u8]
     ensures { result.now ≡ word_at words.now place }
 {
     match words.get(place as usize) {

@@ -18,7 +18,7 @@ mod tool_inputs;
 mod tool_runs;
 
 pub use building::build_at_once;
-pub use commands::plan_command;
+pub use commands::{own_word, plan_command, word_at};
 pub use inferring::{Inferred, infer};
 pub use line_command::LineCommand;
 pub use line_fault::LineFault;

@@ -1,9 +1,9 @@
 //! The lines of a build script.
 
 ghost use Rattle.std.specs.Prelude.{◌≡◌, IfOk};
-ghost use Rattle.file_tree.specs.Planning.{place_after};
 ghost use Rattle.build_script.specs.ScriptLines.{no_lines, with_text, line_ended, joined, after_other, after_backslash, with_byte, with_bytes, at_end, script_lines};
 
+use file_tree::place_after;
 use object_name::{Bytes, Many};
 use std::alloc::{AllocError, Global};
 
@@ -28,13 +28,6 @@ pub(crate) struct ScriptLines {
     pub(crate) text: Bytes,
     /// Whether a backslash waits for the byte behind it.
     pub(crate) has_backslash: bool,
-}
-
-/// The number after one.
-fn place_after(number: u32) -> u32
-    ensures { result ≡ place_after number }
-{
-    number.saturating_add(1)
 }
 
 impl ScriptLines {

@@ -4,7 +4,7 @@
 use blob_store::FolderKeeper;
 use file_tree::{FolderTree, STORE};
 use gg_cli::{Status, gg_top};
-use object_name::{Sink, WriteSink, write_all};
+use object_name::{ReadSource, Sink, WriteSink, write_all};
 use std::alloc::AllocError;
 use std::io::ErrorKind;
 use std::process::ExitCode;
@@ -35,10 +35,19 @@ fn run<E: Sink>(rt: &HostRuntime, err: &mut E) -> Result<Status, AllocError> {
     let process = process::id(rt.process());
     let mut keeper = FolderKeeper::new(alloc, HostRuntime::clone(rt)?, STORE, process)?;
     let mut tree = FolderTree::new(alloc, HostRuntime::clone(rt)?, FOLDER, process)?;
+    let mut input = ReadSource::new(rt.reader());
     let stdout = rt.stdout();
     let mut out = WriteSink::new(io::writer(&stdout));
     let words = words.as_slice();
-    Ok(gg_top(alloc, words, &mut keeper, &mut tree, &mut out, err))
+    Ok(gg_top(
+        alloc,
+        words,
+        &mut keeper,
+        &mut tree,
+        &mut input,
+        &mut out,
+        err,
+    ))
 }
 
 fn main(rt: HostRuntime) -> ExitCode {

@@ -4,6 +4,7 @@ pub mod LinesAreWrittenInOrder
 pub mod WordsAreReadInOrder
 pub mod FilesAreWrittenInOrder
 pub mod EndsArePrefixes
+pub mod OnePart
 pub mod PartsCauseTheWhole
 pub mod StepsMakeTheAnswer
 pub mod LinesFitTheStatus
@@ -11,5 +12,11 @@ pub mod TriesAddUp
 pub mod RecipesAreFit
 pub mod WorkMakesTheAnswer
 pub mod ReadingMakesTheAnswer
+pub mod InputMakesTheAnswer
 pub mod PartsAreReadInOrder
 pub mod DescriptionGrows
+pub mod PartsJoin
+pub mod ScriptsMakeTheAnswer
+pub mod BuildsMakeTheAnswer
+pub mod LinesCauseTheEnd
+pub mod CommandsAgree

@@ -26,15 +26,13 @@ use Rattle.gg_cli.specs.Description.{description}
 use Rattle.gg_cli.specs.LowerFaults.{output_fault, want_fault}
 use Rattle.gg_cli.specs.StepContracts.{EndsAt, Ends, StopsAt, only_store}
 use Rattle.gg_cli.specs.Writing.{Writes}
+use Rattle.gg_cli.proofs.OnePart.{nothing-made}
 use Rattle.gg_cli.proofs.StepsMakeTheAnswer.{handed, printed_done, printed_ends}
 
 module _ (kept : Kept) (files : Filed) (told : Option (List ℕ)) where
   -- nothing was done yet
   untouched : (a : Answer) → MadePrefix a (only_store kept kept files told)
-  untouched a = inl (record {
-    kept = record { prefix = []; is_prefix = record { rest = a.writes; whole = refl }; store = refl; listed = inl (sym (append-nil kept.writes)) };
-    files = refl;
-  })
+  untouched a = nothing-made a (only_store kept kept files told) refl refl
 
   -- a refusal before anything is done
   refusal_ends : (refusal : Refusal) → EndsAt (ended_by [] [] (tops.Refused refusal)) (only_store kept kept files told) (tops.Refused refusal)
@@ -45,6 +43,7 @@ module _ (kept : Kept) (files : Filed) (told : Option (List ℕ)) where
   pub stops_end : (a : Answer) (fault : TopFault) → StopsAt a fault → EndsAt a (only_store kept kept files told) fault
   stops_end a tops.StoreFailed h = record { comes = record { prefix = untouched a; no_text = Appends-nil told }; line = refl }
   stops_end a tops.FileFailed h = record { comes = record { prefix = untouched a; no_text = Appends-nil told }; line = refl }
+  stops_end a tops.InputFailed h = absurd h
   stops_end a tops.OutputFailed h = absurd h
   stops_end a tops.Memory h = record { comes = inl (record { prefix = untouched a; no_text = Appends-nil told }); line = refl }
   stops_end a (tops.Refused refusal) h = rw h (refusal_ends refusal)

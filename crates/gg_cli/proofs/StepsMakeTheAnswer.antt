@@ -37,13 +37,15 @@ use Rattle.gg_cli.specs.declared.fault.FilingFault.TheVariants as filings
 use Rattle.gg_cli.specs.Endings.{ending_of}
 use Rattle.gg_cli.specs.ValueLines.{value_lines}
 use Rattle.gg_cli.specs.ValueFiles.{filed}
-use Rattle.gg_cli.specs.Answer.{done, ended_by, forced, wanted_forced}
+use Rattle.gg_cli.specs.Answer.{all_done, done, ended_by, forced, wanted_forced}
+use Rattle.gg_cli.specs.Parts.{Part, one_part}
 use Rattle.gg_cli.specs.LowerFaults.{IsFaultOf, want_fault, filing_fault, output_fault}
 use Rattle.gg_cli.specs.Comes.{Made, Counts, MadePrefix, MadeAll, TopCause}
 use Rattle.gg_cli.specs.StepContracts.{EndsAt, Ends, HasValues, HandsOut, FilesValues, FilingCause, only_store}
 use Rattle.gg_cli.specs.Writing.{Writes}
 use Rattle.blob_store.proofs.PublicLaws.{all_written-none}
 use Rattle.file_tree.proofs.PublicLaws.{all_changed-none}
+use Rattle.gg_cli.proofs.OnePart.{nothing-made, one-made, part-made}
 
 -- ---- evaluation
 
@@ -58,10 +60,14 @@ refused_ends : (writes : List Write) (changes : List Change) (m : Made) (refusal
 refused_ends writes changes m (refusals.Missing name) all text = record { comes = record { is_status = refl; all = all; text = text }; line = refl }
 refused_ends writes changes m refusal all text = record { comes = record { is_status = refl; all = all; text = text }; line = refl }
 
--- the answer's writes are those of the evaluation
-forced_writes : (items : List Item) (e : Ended (List ObjectName)) → (forced items e).writes ≡ (state_after e).writes
-forced_writes items (Got names s) = refl
-forced_writes items (Stopped why s) = refl
+-- the answer's one part: the writes of the evaluation, and the files that its values go to
+abbrev forced_changes : List Item → Ended (List ObjectName) → List Change
+forced_changes items (Got names s) = filed s.store.objects names items
+forced_changes items (Stopped why s) = []
+
+forced_parts : (items : List Item) (e : Ended (List ObjectName)) → (forced items e).parts ≡ one_part (state_after e).writes (forced_changes items e)
+forced_parts items (Got names s) = refl
+forced_parts items (Stopped why s) = refl
 
 module _ (e : Ended (List ObjectName)) (before after : Kept) (law : (state_after e).store ≡ written before.store (state_after e).writes) where
   -- the evaluation gave names
@@ -74,22 +80,22 @@ module _ (e : Ended (List ObjectName)) (before after : Kept) (law : (state_after
   module _ (items : List Item) (files : Filed) (told : Option (List ℕ)) where
     -- a prefix of its writes is a prefix of the answer's
     made_prefix : StopsPartWay before.writes (start before.store) e after → MadePrefix (forced items e) (only_store before after files told)
-    made_prefix h = inl (record {
+    made_prefix h = part-made (forced items e) (only_store before after files told) (record { writes = (state_after e).writes; changes = forced_changes items e }) (forced_parts items e) (inl (record {
       kept = record {
         prefix = h.part.prefix;
-        is_prefix = record { rest = h.part.others; whole = forced_writes items e ∙ h.part.list };
+        is_prefix = record { rest = h.part.others; whole = h.part.list };
         store = h.part.kept;
         listed = subst (λ l. ListsMade l h.part.prefix after.writes) (append-nil before.writes) h.listed;
       };
       files = refl;
-    })
+    }))
 
     -- the evaluation stopped, and all of its writes are made
     stopped_all : (why : Stop) → StopsWith why e after.store → ListsAll before.writes e after → MadeAll (forced items e) (only_store before after files told)
     stopped_all why h list =
         let kept = rw h.stopped at law in
         let writes = rw h.stopped at list in
-        rw h.stopped (record { kept = λ i. record { store = (h.store ∙ kept) i; writes = writes i }; files = all_changed-none files })
+        rw h.stopped (one-made (forced items (Stopped why h.last)) (only_store before after files told) h.last.writes [] refl (λ i. record { store = (h.store ∙ kept) i; writes = writes i }) (all_changed-none files))
 
     -- the evaluation ended at a fault
     ends_at : (fault : EvalFault) (top : TopFault) → Stops before.writes (start before.store) e after fault → IsFaultOf fault top → EndsAt (forced items e) (only_store before after files told) top
@@ -125,7 +131,8 @@ handed before after files_before files_after out_before out_after =
 
 module _ (writes : List Write) (text : List ℕ) (before after : Kept) (made : after ≡ all_written before writes) (files_before files_after : Filed) (told : Option (List ℕ)) where
   filing_prefix : (changes : List Change) → ChangesPrefix changes files_before files_after → MadePrefix (done writes changes text) (handed before after files_before files_after told told)
-  filing_prefix changes h = inr (record { kept = made; files = h })
+  filing_prefix changes h =
+      part-made (done writes changes text) (handed before after files_before files_after told told) (record { writes = writes; changes = changes }) refl (inr (record { kept = made; files = h }))
 
   -- the values didn't all go to their files
   pub filing_ends : (T : Type 0) (changes : List Change) (fault : FilingFault) → FilesValues {T = T} changes files_before files_after (Err fault)
@@ -135,31 +142,34 @@ module _ (writes : List Write) (text : List ℕ) (before after : Kept) (made : a
   filing_ends T changes filings.FileFailed h = record { comes = record { prefix = filing_prefix changes h; no_text = Appends-nil told }; line = refl }
   filing_ends T changes filings.Memory h = record { comes = inl (record { prefix = filing_prefix changes h; no_text = Appends-nil told }); line = refl }
 
+-- all is made, and then the text is written, or a prefix of it
+module _ (parts : List Part) (text : List ℕ) (m : Made) (f g : ℕ) (all : MadeAll (all_done parts text) m) where
+  pub all_printed : {T : Type 0} (v : T) → Writes text m.out_before m.out_after f g (Ok v) → Ends {T = T} (all_done parts text) m (Ok v)
+  all_printed v h = record { is_status = refl; all = all; text = h.whole }
+
+  pub all_unprinted : (T : Type 0) (e : Trouble) → Writes {T = T} text m.out_before m.out_after f g (Err e) → EndsAt (all_done parts text) m (output_fault e)
+  all_unprinted T troubles.Failed h = record { comes = record { done = refl; prints = record { all = all; text = h.prefix } }; line = refl }
+  all_unprinted T troubles.Memory h = record { comes = inr (record { all = all; text = h.prefix }); line = refl }
+
 module _ (writes : List Write) (text : List ℕ) (before after : Kept) (made : after ≡ all_written before writes) (files_before files_after : Filed) (b c : Option (List ℕ)) (f g : ℕ)
     (changes : List Change) (all : files_after ≡ all_changed files_before changes) where
+  whole : MadeAll (done writes changes text) (handed before after files_before files_after b c)
+  whole = one-made (done writes changes text) (handed before after files_before files_after b c) writes changes refl made all
+
   -- all went to their files, and the text was written
   pub printed_done : {T : Type 0} (v : T) → Writes text b c f g (Ok v) → Ends {T = T} (done writes changes text) (handed before after files_before files_after b c) (Ok v)
-  printed_done v h = record { is_status = refl; all = record { kept = made; files = all }; text = h.whole }
+  printed_done v h = all_printed (one_part writes changes) text (handed before after files_before files_after b c) f g whole v h
 
   -- or a prefix of it
   pub printed_ends : (T : Type 0) (e : Trouble) → Writes {T = T} text b c f g (Err e) → EndsAt (done writes changes text) (handed before after files_before files_after b c) (output_fault e)
-  printed_ends T troubles.Failed h = record { comes = record { done = refl; prints = record { all = record { kept = made; files = all }; text = h.prefix } }; line = refl }
-  printed_ends T troubles.Memory h = record { comes = inr (record { all = record { kept = made; files = all }; text = h.prefix }); line = refl }
+  printed_ends T e h = all_unprinted (one_part writes changes) text (handed before after files_before files_after b c) f g whole T e h
 
 -- ---- the items
 
 module _ (budget : ℕ) (items : List Item) (kept : Kept) (files files_after : Filed) (same : files_after ≡ files) (told : Option (List ℕ)) (found : Result (List Ref) FileRefusal) where
   -- nothing was done yet
   untouched : MadePrefix (wanted_forced budget items kept.store found) (handed kept kept files files_after told told)
-  untouched = inl (record {
-    kept = record {
-      prefix = [];
-      is_prefix = record { rest = (wanted_forced budget items kept.store found).writes; whole = refl };
-      store = refl;
-      listed = inl (sym (append-nil kept.writes));
-    };
-    files = same;
-  })
+  untouched = nothing-made (wanted_forced budget items kept.store found) (handed kept kept files files_after told told) refl same
 
   -- an item was refused, or the tree failed
   pub want_ends : (fault : WantFault) → Answers {T = List Ref} found (Err fault) → EndsAt (wanted_forced budget items kept.store found) (handed kept kept files files_after told told) (want_fault fault)

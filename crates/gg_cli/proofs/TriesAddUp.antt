@@ -9,7 +9,7 @@ use Rattle.need_eval.specs.declared.fault.EvalFault.{EvalFault}
 use Rattle.need_eval.specs.declared.fault.EvalFault.TheVariants as faults
 use Rattle.need_eval.specs.StepContracts.{failures_of}
 use Rattle.gg_cli.specs.declared.fault.TopFault.{TopFault}
-use Rattle.gg_cli.specs.declared.fault.TopFault.TheVariants.{Usage, FileRefused, Refused, NotModelled, Clash, StoreFailed, FileFailed, OutputFailed, Memory}
+use Rattle.gg_cli.specs.declared.fault.TopFault.TheVariants.{Usage, FileRefused, Refused, NotModelled, LineNotModelled, ToolFailed, Clash, InputTooLong, StoreFailed, FileFailed, InputFailed, OutputFailed, Memory}
 use Rattle.gg_cli.specs.declared.fault.FilingFault.{FilingFault}
 use Rattle.gg_cli.specs.declared.fault.FilingFault.TheVariants as filings
 use Rattle.gg_cli.specs.declared.status.Status.{Status}
@@ -48,9 +48,13 @@ kept-unfiled T retries before after Usage cause = refl
 kept-unfiled T retries before after (FileRefused refusal) cause = refl
 kept-unfiled T retries before after (Refused refusal) cause = refl
 kept-unfiled T retries before after (NotModelled word reason) cause = refl
+kept-unfiled T retries before after (LineNotModelled line word reason) cause = refl
+kept-unfiled T retries before after (ToolFailed line status) cause = refl
 kept-unfiled T retries before after (Clash name) cause = refl
+kept-unfiled T retries before after InputTooLong cause = refl
 kept-unfiled T retries before after StoreFailed cause = refl
 kept-unfiled T retries before after FileFailed cause = absurd (omega (arith, cause))
+kept-unfiled T retries before after InputFailed cause = refl
 kept-unfiled T retries before after OutputFailed cause = refl
 kept-unfiled T retries before after Memory cause = refl
 
@@ -70,9 +74,13 @@ kept_within Usage = omega arith
 kept_within (FileRefused refusal) = omega arith
 kept_within (Refused refusal) = omega arith
 kept_within (NotModelled word reason) = omega arith
+kept_within (LineNotModelled line word reason) = omega arith
+kept_within (ToolFailed line status) = omega arith
 kept_within (Clash name) = omega arith
+kept_within InputTooLong = omega arith
 kept_within StoreFailed = omega arith
 kept_within FileFailed = omega arith
+kept_within InputFailed = omega arith
 kept_within OutputFailed = omega arith
 kept_within Memory = omega arith
 
@@ -81,9 +89,13 @@ kept_one Usage = omega arith
 kept_one (FileRefused refusal) = omega arith
 kept_one (Refused refusal) = omega arith
 kept_one (NotModelled word reason) = omega arith
+kept_one (LineNotModelled line word reason) = omega arith
+kept_one (ToolFailed line status) = omega arith
 kept_one (Clash name) = omega arith
+kept_one InputTooLong = omega arith
 kept_one StoreFailed = omega arith
 kept_one FileFailed = omega arith
+kept_one InputFailed = omega arith
 kept_one OutputFailed = omega arith
 kept_one Memory = omega arith
 
@@ -92,9 +104,13 @@ file_within Usage = omega arith
 file_within (FileRefused refusal) = omega arith
 file_within (Refused refusal) = omega arith
 file_within (NotModelled word reason) = omega arith
+file_within (LineNotModelled line word reason) = omega arith
+file_within (ToolFailed line status) = omega arith
 file_within (Clash name) = omega arith
+file_within InputTooLong = omega arith
 file_within StoreFailed = omega arith
 file_within FileFailed = omega arith
+file_within InputFailed = omega arith
 file_within OutputFailed = omega arith
 file_within Memory = omega arith
 
@@ -103,9 +119,13 @@ file_one Usage = omega arith
 file_one (FileRefused refusal) = omega arith
 file_one (Refused refusal) = omega arith
 file_one (NotModelled word reason) = omega arith
+file_one (LineNotModelled line word reason) = omega arith
+file_one (ToolFailed line status) = omega arith
 file_one (Clash name) = omega arith
+file_one InputTooLong = omega arith
 file_one StoreFailed = omega arith
 file_one FileFailed = omega arith
+file_one InputFailed = omega arith
 file_one OutputFailed = omega arith
 file_one Memory = omega arith
 

@@ -17,35 +17,31 @@ use Rattle.build_plan.specs.Applying.{ApplyCause, Does, Gives, MakesPrefix, Side
 use Rattle.gg_cli.specs.declared.fault.TopFault.{TopFault}
 use Rattle.gg_cli.specs.declared.fault.TopFault.TheVariants as tops
 use Rattle.gg_cli.specs.Endings.{ending_of}
-use Rattle.gg_cli.specs.Answer.{command_plan, modelled, plan_modelled, worked}
-use Rattle.gg_cli.specs.Comes.{Counts, MadeAll, MadePrefix, TopCause}
+use Rattle.build_script.specs.Commands.{command_plan}
+use Rattle.gg_cli.specs.Answer.{modelled, plan_modelled, worked}
+use Rattle.gg_cli.specs.Parts.{one_part}
+use Rattle.gg_cli.specs.Comes.{Counts, MadeAll, MadePart, MadePrefix, TopCause}
 use Rattle.gg_cli.specs.LowerFaults.{IsPlanFault, IsWorkFault, output_fault}
 use Rattle.gg_cli.specs.StepContracts.{EndsAt, Ends, file_faults_of, kept_faults_of, StopsAt, work_made}
 use Rattle.gg_cli.specs.Writing.{Writes}
+use Rattle.gg_cli.proofs.OnePart.{one-made, part-made}
 use Rattle.gg_cli.proofs.StepsMakeTheAnswer.{handed, printed_done, printed_ends}
 
 module _ {A : Type 0} (text : A → List ℕ) (word : List ℕ) where
-  -- the answer's writes and changes are those of the work
-  worked_writes : (e : Ended Work A) → (worked text word e).writes ≡ (state_after e).writes
-  worked_writes (Got x work) = refl
-  worked_writes (Stopped why work) = refl
-
-  worked_changes : (e : Ended Work A) → (worked text word e).changes ≡ (state_after e).changes
-  worked_changes (Got x work) = refl
-  worked_changes (Stopped why work) = refl
+  -- the answer's one part is what the work writes and changes
+  worked_parts : (e : Ended Work A) → (worked text word e).parts ≡ one_part (state_after e).writes (state_after e).changes
+  worked_parts (Got x work) = refl
+  worked_parts (Stopped why work) = refl
 
   module _ (e : Ended Work A) (s : Sides) where
     module _ (told : Option (List ℕ)) where
       -- a prefix of what the work does is one of what the answer does
       work_prefix : MakesPrefix (state_after e) s → MadePrefix (worked text word e) (work_made told s)
-      work_prefix (inl h) = inl (record {
-        kept = subst (λ (writes : List Write). WritesPrefix writes s.kept_before s.kept_after) (sym (worked_writes e)) h.kept;
-        files = h.files;
-      })
-      work_prefix (inr h) = inr (record {
-        kept = h.kept ∙ ap (all_written s.kept_before) (sym (worked_writes e));
-        files = subst (λ (changes : List Change). ChangesPrefix changes s.files_before s.files_after) (sym (worked_changes e)) h.files;
-      })
+      work_prefix h = part-made (worked text word e) (work_made told s) (record { writes = (state_after e).writes; changes = (state_after e).changes }) (worked_parts e) (on h)
+        where
+          on : MakesPrefix (state_after e) s → MadePart (record { writes = (state_after e).writes; changes = (state_after e).changes }) (work_made told s)
+          on (inl h) = inl (record { kept = h.kept; files = h.files })
+          on (inr h) = inr (record { kept = h.kept; files = h.files })
 
       -- all that the work had written by its stop is a prefix of it
       stop_prefix : (why : Why) → StopsFor e why s → MakesPrefix (state_after e) s
@@ -61,7 +57,7 @@ module _ {A : Type 0} (text : A → List ℕ) (word : List ℕ) where
 
       -- work that stopped has made all that its answer does
       stop_all : (why : Why) → StopsFor e why s → MadeAll (worked text word e) (work_made told s)
-      stop_all why h = rw h.stopped (record { kept = h.all.kept; files = h.all.files })
+      stop_all why h = rw h.stopped (one-made (worked text word (Stopped why h.last)) (work_made told s) h.last.writes h.last.changes refl h.all.kept h.all.files)
 
       -- memory ran out after a prefix
       memory_ends : MakesPrefix (state_after e) s → EndsAt (worked text word e) (work_made told s) tops.Memory
@@ -85,7 +81,7 @@ module _ {A : Type 0} (text : A → List ℕ) (word : List ℕ) where
 
       -- work is done, of which nothing is printed
       pub work_done : {T : Type 0} (x : A) (v : T) → text x ≡ [] → Gives e x s → Ends {T = T} (worked text word e) (work_made told s) (Ok v)
-      work_done x v none h = rw (h.got, none) (record { is_status = refl; all = record { kept = h.all.kept; files = h.all.files }; text = Appends-nil told })
+      work_done x v none h = rw h.got (record { is_status = refl; all = one-made (worked text word (Got x h.last)) (work_made told s) h.last.writes h.last.changes refl h.all.kept h.all.files; text = rw none (Appends-nil told) })
 
     -- work is done, and its text was printed
     module _ (b c : Option (List ℕ)) (f g : ℕ) (x : A) (h : Gives e x s) where

@@ -1,7 +1,7 @@
--- The answer of a command line over a store and a tree: the writes, the changes of files, the text, the status and the line of
--- the fault.
-use Rattle.std.specs.Prelude.{ℕ, List, [], ◌∷◌, ◌++◌, ◌||◌, Bool, Option, Some, None, Result, Ok, Err, bytes_eq, codes, slice_get, unwrap_or, if◌then◌else◌}
-use Rattle.object_name.specs.Name.{ObjectName, spelling}
+-- The answer of a command line over a text of the input, a store and a tree: the parts of what it does, the text, the status and
+-- the line of the fault.
+use Rattle.std.specs.Prelude.{ℕ, List, [], ◌∷◌, ◌++◌, length, nat_le, Option, Some, None, Result, Ok, Err, codes, decimal, if◌then◌else◌}
+use Rattle.object_name.specs.Name.{ObjectName, max_size, spelling}
 use Rattle.thunk_codec.specs.declared.reference.Ref.{Ref}
 use Rattle.thunk_codec.specs.Job.{ref_name}
 use Rattle.thunk_codec.specs.Reading.{thunk_of}
@@ -13,47 +13,57 @@ use Rattle.file_tree.specs.Wanted.{ref_of_item, wanted_of}
 use Rattle.file_tree.specs.declared.item.Item.{Item}
 use Rattle.file_tree.specs.declared.model_fault.PlanFault.{PlanFault}
 use Rattle.file_tree.specs.declared.model_fault.PlanFault.TheVariants as plans
-use Rattle.file_tree.specs.declared.model_fault.Reason.TheVariants.{Unknown}
 use Rattle.file_tree.specs.declared.refusal.FileRefusal.{FileRefusal}
 use Rattle.need_eval.specs.declared.fault.Refusal.TheVariants.{Missing, BadThunk}
 use Rattle.need_eval.specs.Eval.{Stop, Refused, Clash, Stands, Ended, Got, Stopped, start}
 use Rattle.need_eval.specs.Evaluation.{values_of, by_function}
 use Rattle.build_plan.specs.declared.recipe.Recipe.{Recipe}
 use Rattle.build_plan.specs.Doing as doing
-use Rattle.build_plan.specs.Symbolic.{Work, applied, begun}
+use Rattle.build_plan.specs.Symbolic.{Work, applied, begun, symbolic}
 use Rattle.build_plan.specs.Creating.{created}
-use Rattle.model_gcc.specs.declared.gcc_plan.GccPlan.{GccPlan}
-use Rattle.model_gcc.specs.Plan.{plan_of}
-use Rattle.model_gcc.specs.PlanOf.{build_of}
+use Rattle.build_plan.specs.declared.plan.Plan.{Plan}
+use Rattle.build_script.specs.AtOnce.{Ran, at_once, not_run}
+use Rattle.build_script.specs.Commands.{command_plan, own_word, word_at}
+use Rattle.build_script.specs.Inferring.{at_most}
+use Rattle.build_script.specs.LineCommand.{Halt, AtWord, AtWork}
+use Rattle.build_script.specs.Script.{ScriptEnd, Finished, Halted, script_built, script_inferred}
+use Rattle.build_script.specs.ScriptLines.{script_lines}
+use Rattle.build_script.specs.WholeTree.{cpp_whole}
 use Rattle.gg_cli.specs.declared.fault.TopFault.{TopFault}
 use Rattle.gg_cli.specs.declared.fault.TopFault.TheVariants as faults
 use Rattle.gg_cli.specs.declared.status.Status.{Status}
 use Rattle.gg_cli.specs.declared.status.Status.TheVariants.{Done}
 use Rattle.gg_cli.specs.declared.command.Command.{Command}
-use Rattle.gg_cli.specs.declared.command.Command.TheVariants.{Force, CreateThunk, Model, Describe}
+use Rattle.gg_cli.specs.declared.command.Command.TheVariants.{Force, CreateThunk, Model, Infer, Build, Describe}
 use Rattle.gg_cli.specs.Words.{command_of}
 use Rattle.gg_cli.specs.Description.{description}
 use Rattle.sandbox_run.specs.Cards.{card_outcome}
 use Rattle.gg_cli.specs.Endings.{ending_of, line_of}
 use Rattle.gg_cli.specs.ValueLines.{value_lines}
 use Rattle.gg_cli.specs.ValueFiles.{filed}
+use Rattle.gg_cli.specs.Parts.{Part, line_parts, one_part, ran_part, work_part}
 
--- what a command line is to do: the writes to the store in order, then the changes of files in order, the status, what is
--- printed, and the line of the fault, if there is one
+-- what a command line is to do: its parts, one after another, the status, what is printed, and the line of the fault, if there is one
 pub record Answer : Type 0 where
-  pub writes : List Write
-  pub changes : List Change
+  pub parts : List Part
   pub status : Status
   pub text : List ℕ
   pub line : List ℕ
 
 -- all is done, and this is printed
-abbrev pub done : List Write → List Change → List ℕ → Answer
-done writes changes text = record { writes = writes; changes = changes; status = Done; text = text; line = [] }
+abbrev pub all_done : List Part → List ℕ → Answer
+all_done parts text = record { parts = parts; status = Done; text = text; line = [] }
 
--- a fault ends it, after these writes and changes
+-- a fault ends it, after these parts
+abbrev pub halted_by : List Part → TopFault → Answer
+halted_by parts fault = record { parts = parts; status = (ending_of fault).status; text = []; line = line_of fault }
+
+-- the same, where one part is all
+abbrev pub done : List Write → List Change → List ℕ → Answer
+done writes changes text = all_done (one_part writes changes) text
+
 abbrev pub ended_by : List Write → List Change → TopFault → Answer
-ended_by writes changes fault = record { writes = writes; changes = changes; status = (ending_of fault).status; text = []; line = line_of fault }
+ended_by writes changes fault = halted_by (one_part writes changes) fault
 
 -- the fault of a stop; with one function an evaluation never stands at a job
 abbrev pub stop_fault : Stop → TopFault
@@ -96,35 +106,61 @@ name_line name = spelling name ++ 10 ∷ []
 abbrev pub thunk_created : Recipe → Store → Files → Answer
 thunk_created recipe store files = worked name_line (codes "create-thunk") (created recipe (begun store files))
 
--- the command's own word
-abbrev pub own_word : List (List ℕ) → List ℕ
-own_word words = unwrap_or (slice_get words 0) []
-
--- whether a command is one of the names of gcc
-abbrev pub is_gcc : List ℕ → Bool
-is_gcc word = bytes_eq word (codes "gcc") || bytes_eq word (codes "cc")
-
--- the plan of a command, by its words, of which the first is its own: no other command is modelled
-abbrev pub command_plan : List (List ℕ) → Result GccPlan PlanFault
-command_plan words = if is_gcc (own_word words) then plan_of words else Err (plans.Refused 0 Unknown)
-
--- the word at a place, or the command's own where the place is past the end
-abbrev pub word_at : List (List ℕ) → ℕ → List ℕ
-word_at words place = unwrap_or (slice_get words place) (own_word words)
-
 -- the fault of words that have no plan
 abbrev pub plan_fault : List (List ℕ) → PlanFault → TopFault
 plan_fault words (plans.Refused at reason) = faults.NotModelled (word_at words at) reason
 plan_fault words plans.Memory = faults.Memory
 
 -- the answer by the plan of the words: it is applied, unless a word is refused
-abbrev pub plan_modelled : List (List ℕ) → Result GccPlan PlanFault → Store → Files → Answer
+abbrev pub plan_modelled : List (List ℕ) → Result Plan PlanFault → Store → Files → Answer
 plan_modelled words (Err fault) store files = ended_by [] [] (plan_fault words fault)
-plan_modelled words (Ok plan) store files = worked no_text (own_word words) (applied (build_of plan) (begun store files))
+plan_modelled words (Ok plan) store files = worked no_text (own_word words) (applied plan (begun store files))
 
 -- `model`: the plan of the command's words
 abbrev pub modelled : List (List ℕ) → Store → Files → Answer
 modelled words store files = plan_modelled words (command_plan words) store files
+
+-- the fault of a line that halts
+abbrev pub halt_fault : Halt → TopFault
+halt_fault (AtWord line word reason) = faults.LineNotModelled line word reason
+halt_fault (AtWork line (doing.File refusal)) = faults.FileRefused refusal
+halt_fault (AtWork line (doing.Unmodelled reason)) = faults.LineNotModelled line [] reason
+halt_fault (AtWork line (doing.Clash name found fresh)) = faults.Clash name
+halt_fault (AtWork line (doing.Tool status)) = faults.ToolFailed line status
+
+-- a label and a number in a line
+abbrev pub count_line : List ℕ → ℕ → List ℕ
+count_line label number = label ++ (decimal number ++ 10 ∷ [])
+
+-- the numbers of commands and of thunks
+abbrev pub inferred_text : ℕ → ℕ → List ℕ
+inferred_text commands thunks = count_line (codes "commands ") commands ++ count_line (codes "thunks ") thunks
+
+-- the answer by the end of a script, which has done these parts: a text of what was done, or the fault of the line that halts
+abbrev pub scripted : {S : Type 0} → (ℕ → S → List ℕ) → List Part → ScriptEnd S → Answer
+scripted text parts (Finished commands s) = all_done parts (text commands s)
+scripted text parts (Halted halt s) = halted_by parts (halt_fault halt)
+
+-- what `infer` prints, and what `build` does
+abbrev pub infer_prints : ℕ → Work → List ℕ
+infer_prints commands work = inferred_text (at_most commands) (at_most work.thunks)
+
+abbrev pub build_prints : ℕ → Ran → List ℕ
+build_prints commands ran = count_line (codes "commands ") (at_most commands)
+
+-- `infer`: each line of the script is done as `model` does a command, in the tree that the line before leaves
+abbrev pub inferred : List ℕ → Store → Files → Answer
+inferred text store files =
+    scripted infer_prints (line_parts symbolic (λ work. begun work.store work.files) work_part (script_lines text) (begun store files)) (script_inferred text store files)
+
+-- `build`: the tools of each line are run, in the tree that the line before leaves; the store isn't written
+abbrev pub built : List ℕ → Files → Answer
+built text files =
+    scripted build_prints (line_parts (at_once card_outcome cpp_whole) (λ ran. not_run ran.files) ran_part (script_lines text) (not_run files)) (script_built card_outcome cpp_whole text files)
+
+-- the answer to a text of the input, if it isn't longer than a script may be
+abbrev pub within : List ℕ → Answer → Answer
+within text answer = if nat_le (length text) max_size then answer else ended_by [] [] faults.InputTooLong
 
 -- the answer by the thunk of a name
 abbrev pub thunk_described : ObjectName → Option Parts → Answer
@@ -146,13 +182,15 @@ abbrev pub described : Item → Store → Files → Answer
 described item store files = ref_described store (ref_of_item files item)
 
 -- the answer of a command, or of words that are none: a line for each command
-abbrev pub answer_of_command : Option Command → Store → Files → Answer
-answer_of_command None store files = ended_by [] [] faults.Usage
-answer_of_command (Some (Force budget retries items)) store files = wanted_forced budget items store (wanted_of files items)
-answer_of_command (Some (CreateThunk recipe)) store files = thunk_created recipe store files
-answer_of_command (Some (Model words)) store files = modelled words store files
-answer_of_command (Some (Describe item)) store files = described item store files
+abbrev pub answer_of_command : Option Command → List ℕ → Store → Files → Answer
+answer_of_command None text store files = ended_by [] [] faults.Usage
+answer_of_command (Some (Force budget retries items)) text store files = wanted_forced budget items store (wanted_of files items)
+answer_of_command (Some (CreateThunk recipe)) text store files = thunk_created recipe store files
+answer_of_command (Some (Model words)) text store files = modelled words store files
+answer_of_command (Some Infer) text store files = within text (inferred text store files)
+answer_of_command (Some Build) text store files = within text (built text files)
+answer_of_command (Some (Describe item)) text store files = described item store files
 
--- the answer of some words
-unfoldable pub answer_of : List (List ℕ) → Store → Files → Answer
-answer_of words store files = answer_of_command (command_of words) store files
+-- the answer of some words, where the input has this text
+unfoldable pub answer_of : List (List ℕ) → List ℕ → Store → Files → Answer
+answer_of words text store files = answer_of_command (command_of words) text store files

@@ -1,5 +1,5 @@
 -- When each status comes, and what it leaves, by the answer of the definition.
-use Rattle.std.specs.Prelude.{◌≡◌, ◌⊎◌, ℕ, List, [], Option}
+use Rattle.std.specs.Prelude.{◌≡◌, ◌⊎◌, ℕ, List, [], ◌++◌, Option}
 use Rattle.std.specs.Io.KnownBytes.{Appends}
 use Rattle.object_name.specs.Causes.{Rose, RoseBy}
 use Rattle.object_name.specs.Streams.{AppendsPrefix}
@@ -10,6 +10,7 @@ use Rattle.gg_cli.specs.declared.status.Status.TheVariants.{Done, Usage, StoreFa
 use Rattle.gg_cli.specs.declared.fault.TopFault.TheVariants as faults
 use Rattle.gg_cli.specs.Endings.{line_of}
 use Rattle.gg_cli.specs.Answer.{Answer}
+use Rattle.gg_cli.specs.Parts.{Part, all_changes, all_writes, first_part}
 
 -- what is known of the keeper, the tree and the output before a call and after it
 pub record Around (A B C : Type 0) : Type 0 where
@@ -40,24 +41,41 @@ around kept files out keeper keeper_after tree tree_after sink sink_after = reco
   out_after = out sink_after;
 }
 
--- a prefix of the answer's writes was made, and no file was changed
-pub record MadeWrites (a : Answer) (m : Made) : Type 0 where
-  pub kept : WritesPrefix a.writes m.kept_before m.kept_after
+-- a prefix of the part's writes was made, and no file was changed
+pub record MadeWrites (part : Part) (m : Made) : Type 0 where
+  pub kept : WritesPrefix part.writes m.kept_before m.kept_after
   pub files : m.files_after ≡ m.files_before
 
--- all of the answer's writes were made, and a prefix of its changes of files
-pub record MadeChanges (a : Answer) (m : Made) : Type 0 where
-  pub kept : m.kept_after ≡ all_written m.kept_before a.writes
-  pub files : ChangesPrefix a.changes m.files_before m.files_after
+-- all of the part's writes were made, and a prefix of its changes of files
+pub record MadeChanges (part : Part) (m : Made) : Type 0 where
+  pub kept : m.kept_after ≡ all_written m.kept_before part.writes
+  pub files : ChangesPrefix part.changes m.files_before m.files_after
 
--- a prefix of all that the answer does was made
-abbrev pub MadePrefix : Answer → Made → Type 0
-MadePrefix a m = MadeWrites a m ⊎ MadeChanges a m
+-- a prefix of what the part does was made
+abbrev pub MadePart : Part → Made → Type 0
+MadePart part m = MadeWrites part m ⊎ MadeChanges part m
 
--- all that the answer does was made
+-- what they hold from some parts on, all of which are made
+abbrev pub from_parts : List Part → Made → Made
+from_parts parts m = record m { kept_before = all_written m.kept_before (all_writes parts); files_before = all_changed m.files_before (all_changes parts) }
+
+-- a prefix of all that the answer does was made: some of its parts whole, and a prefix of the next
+pub record MadePrefix (a : Answer) (m : Made) : Type 0 where
+  pub before : List Part
+  pub behind : List Part
+  pub are : a.parts ≡ before ++ behind
+  pub part : MadePart (first_part behind) (from_parts before m)
+
+-- all that the answer does was made, each write and each change once and in order
 pub record MadeAll (a : Answer) (m : Made) : Type 0 where
-  pub kept : m.kept_after ≡ all_written m.kept_before a.writes
-  pub files : m.files_after ≡ all_changed m.files_before a.changes
+  pub kept : m.kept_after ≡ all_written m.kept_before (all_writes a.parts)
+  pub files : m.files_after ≡ all_changed m.files_before (all_changes a.parts)
+
+-- nothing is done and printed
+pub record NothingDone (m : Made) : Type 0 where
+  pub kept : m.kept_after ≡ m.kept_before
+  pub files : m.files_after ≡ m.files_before
+  pub out : m.out_after ≡ m.out_before
 
 -- the answer, whole
 pub record IsWhole (a : Answer) (m : Made) (status : Status) : Type 0 where
@@ -102,7 +120,7 @@ status_line a status = a.line
 
 -- a line that a fault prints
 abbrev pub IsFaultLine : Answer → List ℕ → Type 0
-IsFaultLine a line = (status : Status) × (line ≡ status_line a status)
+IsFaultLine a line = (line ≡ line_of faults.InputFailed) ⊎ ((status : Status) × (line ≡ status_line a status))
 
 -- out of memory: a prefix of one line that a fault prints
 pub record SaysPrefix (a : Answer) (before after : Option (List ℕ)) : Type 0 where
@@ -114,6 +132,13 @@ pub record SaysPrefix (a : Answer) (before after : Option (List ℕ)) : Type 0 w
 abbrev pub SaysWhole : List ℕ → Option (List ℕ) → Option (List ℕ) → ℕ → ℕ → Type 0
 SaysWhole line before after faults_before faults_after =
     Appends before after line ⊎ (AppendsPrefix before after line × Rose faults_before faults_after)
+
+-- the input failed, whose count rose: nothing is done, and the line of that is said
+pub record IsInputFault (m : Made) (status : Status) (input_before input_after : ℕ) (before after : Option (List ℕ)) (faults_before faults_after : ℕ) : Type 0 where
+  pub is_status : status ≡ ByteFault
+  pub rose : Rose input_before input_after
+  pub nothing : NothingDone m
+  pub line : SaysWhole (line_of faults.InputFailed) before after faults_before faults_after
 
 -- what was said on the fault sink, by the status
 abbrev pub Says : Answer → Status → Option (List ℕ) → Option (List ℕ) → ℕ → ℕ → Type 0

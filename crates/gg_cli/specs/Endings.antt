@@ -9,7 +9,7 @@ use Rattle.file_tree.specs.declared.refusal.FileRefusal.TheVariants as files
 use Rattle.need_eval.specs.declared.fault.Refusal.{Refusal}
 use Rattle.need_eval.specs.declared.fault.Refusal.TheVariants as refusals
 use Rattle.gg_cli.specs.declared.fault.TopFault.{TopFault}
-use Rattle.gg_cli.specs.declared.fault.TopFault.TheVariants.{Usage, FileRefused, Refused, NotModelled, Clash, StoreFailed, FileFailed, OutputFailed, Memory}
+use Rattle.gg_cli.specs.declared.fault.TopFault.TheVariants.{Usage, FileRefused, Refused, NotModelled, LineNotModelled, ToolFailed, Clash, InputTooLong, StoreFailed, FileFailed, InputFailed, OutputFailed, Memory}
 use Rattle.gg_cli.specs.declared.status.Status.{Status}
 use Rattle.gg_cli.specs.declared.status.Status.TheVariants as statuses
 
@@ -73,15 +73,27 @@ reason_text reasons.TooMany = codes "too many files"
 reason_text reasons.Shell = codes "shell syntax"
 reason_text reasons.Same = codes "same file"
 
+-- the same of a word in a line of a script
+abbrev pub line_word_text : ℕ → List ℕ → Reason → List ℕ
+line_word_text line word reason = codes "line " ++ (decimal line ++ (codes ": " ++ (word ++ (codes ": " ++ reason_text reason))))
+
+-- a tool failed that a line of a script runs
+abbrev pub tool_text : ℕ → ℕ → List ℕ
+tool_text line status = codes "function failed: line " ++ (decimal line ++ (codes " status " ++ decimal status))
+
 -- each fault
 abbrev pub ending_of : TopFault → Ending
 ending_of Usage = ends statuses.Usage (codes "usage")
 ending_of (FileRefused refusal) = ends statuses.FileRefused (file_text refusal)
 ending_of (Refused refusal) = refusal_ending refusal
 ending_of (NotModelled word reason) = ends statuses.NotModelled (word ++ (codes ": " ++ reason_text reason))
+ending_of (LineNotModelled line word reason) = ends statuses.NotModelled (line_word_text line word reason)
+ending_of (ToolFailed line status) = ends statuses.FunctionFailed (tool_text line status)
 ending_of (Clash name) = ends statuses.Clash (codes "two objects named " ++ spelling name)
+ending_of InputTooLong = ends statuses.FileRefused (codes "input too long")
 ending_of StoreFailed = ends statuses.StoreFault (codes "store fault")
 ending_of FileFailed = ends statuses.FileFault (codes "file fault")
+ending_of InputFailed = ends statuses.ByteFault (codes "input fault")
 ending_of OutputFailed = ends statuses.ByteFault (codes "output fault")
 ending_of Memory = ends statuses.Memory (codes "want of memory")
 

@@ -8,8 +8,11 @@ pub mod Pieces
 pub mod ValueLines
 pub mod ValueFiles
 pub mod Description
+pub mod Parts
+pub mod InputText
 pub mod Answer
 pub mod Comes
+pub mod BuildsAgree
 pub mod LowerFaults
 pub mod Writing
 pub mod StepContracts

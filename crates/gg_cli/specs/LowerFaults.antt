@@ -1,5 +1,5 @@
 -- The faults of the crates below, as faults of a command line.
-use Rattle.std.specs.Prelude.{◌≡◌, ◌⊎◌, ℕ, List}
+use Rattle.std.specs.Prelude.{◌≡◌, ◌⊎◌, ℕ, List, []}
 use Rattle.object_name.specs.declared.trouble.Trouble.{Trouble}
 use Rattle.object_name.specs.declared.trouble.Trouble.TheVariants as troubles
 use Rattle.file_tree.specs.declared.model_fault.PlanFault.{PlanFault}
@@ -12,11 +12,13 @@ use Rattle.file_tree.specs.declared.model_fault.Reason.{Reason}
 use Rattle.file_tree.specs.declared.refusal.WantFault.{WantFault}
 use Rattle.file_tree.specs.declared.refusal.WantFault.TheVariants as wants
 use Rattle.need_eval.specs.declared.fault.Refusal.TheVariants as refusals
+use Rattle.build_script.specs.Commands.{word_at}
+use Rattle.build_script.specs.declared.line_fault.LineFault.{LineFault}
+use Rattle.build_script.specs.declared.line_fault.LineFault.TheVariants as line_faults
 use Rattle.gg_cli.specs.declared.fault.TopFault.{TopFault}
-use Rattle.gg_cli.specs.declared.fault.TopFault.TheVariants.{FileRefused, Refused, NotModelled, Clash, StoreFailed, FileFailed, OutputFailed, Memory}
+use Rattle.gg_cli.specs.declared.fault.TopFault.TheVariants.{FileRefused, Refused, NotModelled, LineNotModelled, ToolFailed, Clash, StoreFailed, FileFailed, OutputFailed, Memory}
 use Rattle.gg_cli.specs.declared.fault.FilingFault.{FilingFault}
 use Rattle.gg_cli.specs.declared.fault.FilingFault.TheVariants as filings
-use Rattle.gg_cli.specs.Answer.{word_at}
 
 -- the fault that reading the wanted items ends with
 abbrev pub want_fault : WantFault → TopFault
@@ -61,3 +63,19 @@ IsWorkFault word applies.Memory fault = fault ≡ Memory
 abbrev pub IsPlanFault : List (List ℕ) → PlanFault → TopFault → Type 0
 IsPlanFault words (plans.Refused at reason) fault = IsRefusedWord (word_at words at) reason fault
 IsPlanFault words plans.Memory fault = fault ≡ Memory
+
+-- the fault of the work of a line
+abbrev pub apply_fault : ℕ → ApplyFault → TopFault
+apply_fault line (applies.Refused refusal) = FileRefused refusal
+apply_fault line (applies.Reason reason) = LineNotModelled line [] reason
+apply_fault line (applies.Clash name found fresh) = Clash name
+apply_fault line applies.StoreFailed = StoreFailed
+apply_fault line applies.FileFailed = FileFailed
+apply_fault line applies.Memory = Memory
+
+-- the fault that a script ends with
+abbrev pub line_fault : LineFault → TopFault
+line_fault (line_faults.Word line word reason) = LineNotModelled line word reason
+line_fault (line_faults.Apply line fault) = apply_fault line fault
+line_fault (line_faults.Tool line status) = ToolFailed line status
+line_fault line_faults.Memory = Memory

@@ -1,7 +1,7 @@
 -- What the steps of a command line promise: it ends done or at a fault, and then the line of the fault is said.
 use Rattle.std.specs.Prelude.{◌≡◌, ◌⊎◌, ℕ, List, [], Option, Some, Result, Ok, Err}
 use Rattle.object_name.specs.Name.{ObjectName}
-use Rattle.object_name.specs.Causes.{RoseBy}
+use Rattle.object_name.specs.Causes.{Rose, RoseBy}
 use Rattle.object_name.specs.Streams.{AppendsPrefix}
 use Rattle.blob_store.specs.Store.{Contents, Write, held}
 use Rattle.blob_store.specs.Keeping.{Kept, all_written}
@@ -24,7 +24,7 @@ use Rattle.gg_cli.specs.LowerFaults.{filing_fault}
 use Rattle.gg_cli.specs.ValueFiles.{filed}
 use Rattle.gg_cli.specs.ValueLines.{value_lines}
 use Rattle.gg_cli.specs.Answer.{Answer, bytes_described, done, ended_by, forced, thunk_described}
-use Rattle.gg_cli.specs.Comes.{Made, Counts, Comes, SaysWhole, TopCause, status_line}
+use Rattle.gg_cli.specs.Comes.{Made, Counts, Comes, NothingDone, SaysWhole, TopCause, status_line}
 
 -- the status of the fault comes, and its line is that of the status
 pub record EndsAt (a : Answer) (m : Made) (fault : TopFault) : Type 0 where
@@ -130,12 +130,48 @@ abbrev pub work_counts : ℕ → ℕ → ℕ → ℕ → Counts
 work_counts kept_before kept_after files_before files_after =
     record { kept_before = kept_before; kept_after = kept_after; files_before = files_before; files_after = files_after; out_before = 0; out_after = 0 }
 
+-- nothing of the store changes, whatever it is
+abbrev pub unkept : Kept → Filed → Filed → Option (List ℕ) → Option (List ℕ) → Made
+unkept kept files_before files_after out_before out_after =
+    record { kept_before = kept; kept_after = kept; files_before = files_before; files_after = files_after; out_before = out_before; out_after = out_after }
+
+-- no count of the keeper has risen, whatever it is
+abbrev pub file_counts : ℕ → ℕ → ℕ → ℕ → ℕ → Counts
+file_counts kept files_before files_after out_before out_after =
+    record { kept_before = kept; kept_after = kept; files_before = files_before; files_after = files_after; out_before = out_before; out_after = out_after }
+
+-- ---- the whole command line, whose input may fail too
+
+-- the input failed, whose count rose, and nothing is done
+pub record FailsBefore (m : Made) (input_before input_after : ℕ) : Type 0 where
+  pub rose : Rose input_before input_after
+  pub nothing : NothingDone m
+
+-- where the input failed
+abbrev pub InputEnd : {T : Type 0} → Made → ℕ → ℕ → Result T TopFault → Type 0
+InputEnd m before after (Ok v) = Unit {0}
+InputEnd m before after (Err tops.InputFailed) = FailsBefore m before after
+InputEnd m before after (Err fault) = Unit {0}
+
+-- where it didn't: done, or at a fault
+abbrev pub TopEnds : {T : Type 0} → Answer → Made → Result T TopFault → Type 0
+TopEnds a m (Ok v) = Comes a m Done
+TopEnds a m (Err tops.InputFailed) = Unit {0}
+TopEnds a m (Err fault) = EndsAt a m fault
+
+-- and what caused that
+abbrev pub TopEndCause : {T : Type 0} → ℕ → Counts → Result T TopFault → Type 0
+TopEndCause retries counts (Ok v) = Unit {0}
+TopEndCause retries counts (Err tops.InputFailed) = Unit {0}
+TopEndCause retries counts (Err fault) = TopCause retries counts (ending_of fault).status
+
 -- ---- reading
 
 -- a fault that ends an answer before anything is done: a refusal is the answer's
 abbrev pub StopsAt : Answer → TopFault → Type 0
 StopsAt a tops.StoreFailed = Unit {0}
 StopsAt a tops.FileFailed = Unit {0}
+StopsAt a tops.InputFailed = ⊥
 StopsAt a tops.OutputFailed = ⊥
 StopsAt a tops.Memory = Unit {0}
 StopsAt a fault = a ≡ ended_by [] [] fault

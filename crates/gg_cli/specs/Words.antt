@@ -1,10 +1,10 @@
 -- Command lines, by their words: a command's name, and what follows it.
-use Rattle.std.specs.Prelude.{ℕ, All, List, [], ◌∷◌, Option, Some, None, bytes_eq, codes, if◌then◌else◌}
+use Rattle.std.specs.Prelude.{ℕ, All, List, [], ◌∷◌, Bool, true, false, Option, Some, None, bytes_eq, codes, if◌then◌else◌}
 use Rattle.text_lines.specs.Maybe.{◌>>=◌}
 use Rattle.file_tree.specs.Wanted.{IsItem}
 use Rattle.build_plan.specs.Fitting.{IsFitRecipe}
 use Rattle.gg_cli.specs.declared.command.Command.{Command}
-use Rattle.gg_cli.specs.declared.command.Command.TheVariants.{Force, CreateThunk, Model, Describe}
+use Rattle.gg_cli.specs.declared.command.Command.TheVariants.{Force, CreateThunk, Model, Infer, Build, Describe}
 use Rattle.gg_cli.specs.ItemWords.{output_item_of}
 use Rattle.gg_cli.specs.ForceWords.{default_retries, force_of}
 use Rattle.gg_cli.specs.CreateWords.{create_of}
@@ -13,6 +13,11 @@ use Rattle.gg_cli.specs.CreateWords.{create_of}
 abbrev pub model_of : List (List ℕ) → Option Command
 model_of [] = None
 model_of (first ∷ words) = Some (Model (first ∷ words))
+
+-- a command that no word follows
+abbrev pub alone : Command → List (List ℕ) → Option Command
+alone command [] = Some command
+alone command (word ∷ words) = None
 
 -- what follows `describe`: one item, which is no value
 abbrev pub describe_of : List (List ℕ) → Option Command
@@ -27,6 +32,8 @@ command_of (first ∷ words) =
     if bytes_eq first (codes "force") then force_of words
     else if bytes_eq first (codes "create-thunk") then create_of words
     else if bytes_eq first (codes "model") then model_of words
+    else if bytes_eq first (codes "infer") then alone Infer words
+    else if bytes_eq first (codes "build") then alone Build words
     else if bytes_eq first (codes "describe") then describe_of words
     else None
 
@@ -36,11 +43,29 @@ retries_in None = default_retries
 retries_in (Some (Force budget retries items)) = retries
 retries_in (Some (CreateThunk recipe)) = default_retries
 retries_in (Some (Model words)) = default_retries
+retries_in (Some Infer) = default_retries
+retries_in (Some Build) = default_retries
 retries_in (Some (Describe item)) = default_retries
+
+-- whether a command reads the input
+abbrev pub reads_input : Command → Bool
+reads_input (Force budget retries items) = false
+reads_input (CreateThunk recipe) = false
+reads_input (Model words) = false
+reads_input Infer = true
+reads_input Build = true
+reads_input (Describe item) = false
+
+-- whether some words do: those that are no command line don't
+abbrev pub read_by : Option Command → Bool
+read_by None = false
+read_by (Some command) = reads_input command
 
 -- what a command that was read keeps: what is wanted is named by names of the right kind, and the thunk of a recipe keeps the rules
 abbrev pub IsCommand : Command → Type 0
 IsCommand (Force budget retries items) = All IsItem items
 IsCommand (CreateThunk recipe) = IsFitRecipe recipe
 IsCommand (Model words) = Unit {0}
+IsCommand Infer = Unit {0}
+IsCommand Build = Unit {0}
 IsCommand (Describe item) = IsItem item

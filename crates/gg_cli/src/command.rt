@@ -21,6 +21,10 @@ pub enum Command {
     CreateThunk(Recipe),
     /// The thunks of the work that a command has, whose words these are, and placeholders for the files that it writes.
     Model(Many<Bytes>),
+    /// The same for each line of the script on the input.
+    Infer,
+    /// The work of each line of the script on the input, by running its tools.
+    Build,
     /// What the thunk says of which an item is an output.
     Describe(Item),
 }

@@ -47,6 +47,7 @@ pub(crate) fn create_thunk<K: Keeper, T: Tree, O: Sink>(
     ensures kept_tries { K.tells → TriesAtMost retries K.calls K.faults keeper.old keeper.new (answered kept_faults_of result) }
     ensures file_tries { T.tells → TriesAtMost retries T.calls T.faults tree.old tree.new (answered file_faults_of result) }
     ensures no_usage { result ≢ Err TopFault.Usage }
+    ensures no_input { result ≢ Err TopFault.InputFailed }
 {
     let name = match create(alloc, recipe, tree, keeper, retries) {
         Ok(name) => name,

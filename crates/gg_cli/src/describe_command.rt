@@ -35,6 +35,7 @@ fn held_bytes<K: Keeper>(
     ensures cause { EndCause retries (kept_counts (K.faults keeper.old) (K.faults keeper.new)) result }
     ensures kept_tries { K.tells → TriesAtMost retries K.calls K.faults keeper.old keeper.new (answered kept_faults_of result) }
     ensures no_usage { result ≢ Err TopFault.Usage }
+    ensures no_input { result ≢ Err TopFault.InputFailed }
 {
     match fetch(alloc, keeper, name, retries) {
         Ok(Some(bytes)) => Ok(bytes),
@@ -50,6 +51,7 @@ fn thunk_of(alloc: Global, name: &Name, bytes: &[u8]) -> Result<Thunk, TopFault>
     ensures cause { (retries before after : ℕ) → EndCause retries (kept_counts before after) result }
     ensures unkept { answered kept_faults_of result ≡ 0 }
     ensures no_usage { result ≢ Err TopFault.Usage }
+    ensures no_input { result ≢ Err TopFault.InputFailed }
 {
     match decode(alloc, bytes) {
         Ok(thunk) => Ok(thunk),
@@ -72,6 +74,7 @@ fn read_thunk<K: Keeper>(
     ensures cause { EndCause retries (kept_counts (K.faults keeper.old) (K.faults keeper.new)) result }
     ensures kept_tries { K.tells → TriesAtMost retries K.calls K.faults keeper.old keeper.new (answered kept_faults_of result) }
     ensures no_usage { result ≢ Err TopFault.Usage }
+    ensures no_input { result ≢ Err TopFault.InputFailed }
 {
     let bytes = held_bytes(alloc, keeper, name, retries)?;
     thunk_of(alloc, name, bytes.as_slice())
@@ -106,6 +109,7 @@ pub(crate) fn describe<K: Keeper, T: Tree, O: Sink>(
     ensures kept_tries { K.tells → TriesAtMost retries K.calls K.faults keeper.old keeper.new (answered kept_faults_of result) }
     ensures file_tries { T.tells → TriesAtMost retries T.calls T.faults tree.old tree.new (answered file_faults_of result) }
     ensures no_usage { result ≢ Err TopFault.Usage }
+    ensures no_input { result ≢ Err TopFault.InputFailed }
 {
     let reference = ref_of_item(alloc, tree, item, retries)?;
     let name = reference.name();

@@ -1,7 +1,7 @@
 //! The status and the line of each fault, together.
 
-ghost use Rattle.std.specs.Prelude.{◌≡◌, ◌++◌, codes};
-ghost use Rattle.gg_cli.specs.Endings.{fault_line, file_text, reason_text, refusal_ending, ending_of};
+ghost use Rattle.std.specs.Prelude.{◌≡◌, ◌++◌, codes, decimal};
+ghost use Rattle.gg_cli.specs.Endings.{fault_line, file_text, line_word_text, reason_text, refusal_ending, tool_text, ending_of};
 ghost use Rattle.gg_cli.specs.Writing.{Writes};
 ghost use Rattle.gg_cli.specs.StepContracts.{Speaks};
 
@@ -166,6 +166,51 @@ fn write_word_line<S: Sink>(
     )
 }
 
+/// Writes the line of a refused word in a line of a script.
+fn write_script_line<S: Sink>(
+    alloc: Global,
+    sink: &mut S,
+    line: u32,
+    word: &[u8],
+    reason: Reason,
+) -> Result<(), Trouble>
+    ensures { Writes (fault_line (line_word_text line word.now reason)) (S.written sink.old) (S.written sink.new) (S.faults sink.old) (S.faults sink.new) result }
+{
+    write_line(
+        alloc,
+        sink,
+        &[
+            Text(b"line "),
+            Number(u64::from(line)),
+            Text(b": "),
+            Text(word),
+            Text(b": "),
+            Text(reason_text(reason)),
+        ],
+    )
+}
+
+/// Writes the line of a tool that failed.
+fn write_tool_line<S: Sink>(
+    alloc: Global,
+    sink: &mut S,
+    line: u32,
+    status: u8,
+) -> Result<(), Trouble>
+    ensures { Writes (fault_line (tool_text line status)) (S.written sink.old) (S.written sink.new) (S.faults sink.old) (S.faults sink.new) result }
+{
+    write_line(
+        alloc,
+        sink,
+        &[
+            Text(b"function failed: line "),
+            Number(u64::from(line)),
+            Text(b" status "),
+            Number(u64::from(status)),
+        ],
+    )
+}
+
 /// Writes the line of a fault; answers its status, and whether all was written.
 fn end<S: Sink>(alloc: Global, sink: &mut S, fault: &TopFault) -> (Status, Result<(), Trouble>)
     ensures status { result.0 ≡ (ending_of fault.now).status }
@@ -182,9 +227,21 @@ fn end<S: Sink>(alloc: Global, sink: &mut S, fault: &TopFault) -> (Status, Resul
             Status::NotModelled,
             write_word_line(alloc, sink, word.as_slice(), *reason),
         ),
+        TopFault::LineNotModelled { line, word, reason } => (
+            Status::NotModelled,
+            write_script_line(alloc, sink, *line, word.as_slice(), *reason),
+        ),
+        TopFault::ToolFailed { line, status } => (
+            Status::FunctionFailed,
+            write_tool_line(alloc, sink, *line, *status),
+        ),
         TopFault::Clash(name) => (
             Status::Clash,
             write_line(alloc, sink, &[Text(b"two objects named "), Spelled(*name)]),
+        ),
+        TopFault::InputTooLong => (
+            Status::FileRefused,
+            write_line(alloc, sink, &[Text(b"input too long")]),
         ),
         TopFault::StoreFailed => (
             Status::StoreFault,
@@ -193,6 +250,10 @@ fn end<S: Sink>(alloc: Global, sink: &mut S, fault: &TopFault) -> (Status, Resul
         TopFault::FileFailed => (
             Status::FileFault,
             write_line(alloc, sink, &[Text(b"file fault")]),
+        ),
+        TopFault::InputFailed => (
+            Status::ByteFault,
+            write_line(alloc, sink, &[Text(b"input fault")]),
         ),
         TopFault::OutputFailed => (
             Status::ByteFault,

@@ -17,13 +17,31 @@ pub(crate) enum TopFault {
     /// What was wanted is refused.
     Refused(Refusal),
     /// A word of a command is refused, or the command is.
-    NotModelled { word: Bytes, reason: Reason },
+    NotModelled {
+        word: Bytes,
+        reason: Reason,
+    },
+    /// A word of a line of a script is refused, or the line's command is.
+    LineNotModelled {
+        line: u32,
+        word: Bytes,
+        reason: Reason,
+    },
+    /// A tool that a line of a script runs failed.
+    ToolFailed {
+        line: u32,
+        status: u8,
+    },
     /// Other bytes are held under the name of an object that was to be stored.
     Clash(Name),
+    /// There is more on the input than a script may have.
+    InputTooLong,
     /// The keeper failed.
     StoreFailed,
     /// The tree failed.
     FileFailed,
+    /// The input failed.
+    InputFailed,
     /// The output failed.
     OutputFailed,
     /// Memory ran out.

@@ -31,6 +31,7 @@ fn fault_of(fault: &EvalFault) -> TopFault
     requires { fault.now ≢ EvalFault.RunFailed }
     ensures is_fault { IsFaultOf fault.now result }
     ensures no_usage { result ≢ TopFault.Usage }
+    ensures no_input { result ≢ TopFault.InputFailed }
 {
     match fault {
         EvalFault::Refused(refusal) => TopFault::Refused(*refusal),
@@ -55,6 +56,7 @@ fn find_values<K: Keeper>(
     ensures cause { EndCause retries (kept_counts (K.faults keeper.old) (K.faults keeper.new)) result }
     ensures kept_tries { K.tells → TriesAtMost retries K.calls K.faults keeper.old keeper.new (answered kept_faults_of result) }
     ensures no_usage { result ≢ Err TopFault.Usage }
+    ensures no_input { result ≢ Err TopFault.InputFailed }
 {
     match evaluate(alloc, keeper, refs, budget, retries, &mut Cards) {
         Ok(values) => Ok(values.names),
@@ -80,6 +82,7 @@ fn hand_out<K: Keeper, T: Tree, O: Sink>(
     ensures kept_later { K.faults keeper.old ≤ K.faults keeper.new }
     ensures files_later { T.faults tree.old ≤ T.faults tree.new }
     ensures no_usage { result ≢ Err TopFault.Usage }
+    ensures no_input { result ≢ Err TopFault.InputFailed }
 {
     write_files(alloc, keeper, tree, names, items, retries)?;
     match print_values(alloc, out, names, items) {
@@ -105,6 +108,7 @@ pub(crate) fn force<K: Keeper, T: Tree, O: Sink>(
     ensures kept_tries { K.tells → TriesAtMost retries K.calls K.faults keeper.old keeper.new (answered kept_faults_of result) }
     ensures file_tries { T.tells → TriesAtMost retries T.calls T.faults tree.old tree.new (answered file_faults_of result) }
     ensures no_usage { result ≢ Err TopFault.Usage }
+    ensures no_input { result ≢ Err TopFault.InputFailed }
 {
     let refs = wanted(alloc, tree, items, retries)?;
     let names = find_values(alloc, keeper, refs, budget, retries)?;

@@ -1,6 +1,7 @@
 //! The command line of gg: its words, its answer, and the texts that it prints.
 #![tactic(auto)]
 
+mod build_command;
 mod command;
 mod create_command;
 mod create_words;
@@ -10,9 +11,14 @@ mod endings;
 mod fault;
 mod force_command;
 mod force_words;
+mod infer_command;
+mod input_text;
 mod item_words;
+pub mod laws;
+mod line_fault;
 mod model_command;
 mod pieces;
+mod script_lines;
 mod status;
 mod top;
 mod value_files;

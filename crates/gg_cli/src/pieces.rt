@@ -57,7 +57,11 @@ fn write_piece<S: Sink>(alloc: Global, sink: &mut S, piece: &Piece) -> Result<()
 }
 
 /// Writes pieces, in order.
-fn write_pieces<S: Sink>(alloc: Global, sink: &mut S, pieces: &[Piece]) -> Result<(), Trouble>
+pub(crate) fn write_pieces<S: Sink>(
+    alloc: Global,
+    sink: &mut S,
+    pieces: &[Piece],
+) -> Result<(), Trouble>
     ensures { Writes (pieces_text pieces.now) (S.written sink.old) (S.written sink.new) (S.faults sink.old) (S.faults sink.new) result }
 {
     match pieces {

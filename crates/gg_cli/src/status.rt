@@ -8,7 +8,7 @@ ghost use Rattle.gg_cli.specs.Endings.{code_of};
 pub enum Status {
     /// All is done.
     Done = 0,
-    /// A thunk's function failed.
+    /// A function failed: that of a thunk, or the tool of a line.
     FunctionFailed = 1,
     /// The words are no command line.
     Usage = 2,
@@ -22,7 +22,7 @@ pub enum Status {
     Spent = 6,
     /// A job's encoding is over the limit.
     TooBig = 7,
-    /// An item is refused.
+    /// An item or a file is refused, or the input is too long.
     FileRefused = 8,
     /// A command or a word of it is not modelled.
     NotModelled = 9,
@@ -32,7 +32,7 @@ pub enum Status {
     StoreFault = 12,
     /// The tree failed.
     FileFault = 13,
-    /// The output failed.
+    /// The input or the output failed.
     ByteFault = 14,
     /// Memory ran out.
     Memory = 17,

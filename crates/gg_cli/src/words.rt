@@ -1,7 +1,7 @@
 //! Command lines, by their words.
 
 ghost use Rattle.std.specs.Prelude.{◌≡◌, Some, None, map, string_bytes, IfOk, IsErrOf};
-ghost use Rattle.gg_cli.specs.Words.{model_of, describe_of, command_of, IsCommand};
+ghost use Rattle.gg_cli.specs.Words.{alone, model_of, describe_of, command_of, IsCommand};
 ghost use Rattle.gg_cli.specs.Reading.{Finds};
 
 use crate::command::Command;
@@ -35,6 +35,18 @@ fn read_model(alloc: Global, words: &[String]) -> Result<Command, WordFault>
     Ok(Command::Model(copied(alloc, words)?))
 }
 
+/// A command that no word may follow, by the words that do.
+fn read_alone(command: Command, words: &[String]) -> Result<Command, WordFault>
+    requires { IsCommand command }
+    ensures exact { Finds result (alone command (map string_bytes words.now)) }
+    ensures rules { IfOk result (λ command. IsCommand command) }
+{
+    if words.is_empty() {
+        return Ok(command);
+    }
+    Err(WordFault::Usage)
+}
+
 /// The command by what follows `describe`.
 fn read_describe(alloc: Global, words: &[String]) -> Result<Command, WordFault>
     ensures exact { Finds result (describe_of (map string_bytes words.now)) }
@@ -65,6 +77,12 @@ pub fn read_words(alloc: Global, words: &[String]) -> Result<Command, WordFault>
     }
     if first.as_bytes() == b"model".as_slice() {
         return read_model(alloc, others);
+    }
+    if first.as_bytes() == b"infer".as_slice() {
+        return read_alone(Command::Infer, others);
+    }
+    if first.as_bytes() == b"build".as_slice() {
+        return read_alone(Command::Build, others);
     }
     if first.as_bytes() == b"describe".as_slice() {
         return read_describe(alloc, others);

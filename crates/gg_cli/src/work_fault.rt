@@ -12,6 +12,7 @@ use std::alloc::Global;
 pub(crate) fn not_modelled(alloc: Global, word: &[u8], reason: Reason) -> TopFault
     ensures is_fault { IsRefusedWord word.now reason result }
     ensures no_usage { result ≢ TopFault.Usage }
+    ensures no_input { result ≢ TopFault.InputFailed }
 {
     match Bytes::from_slice(alloc, word) {
         Ok(word) => TopFault::NotModelled { word, reason },
@@ -23,6 +24,7 @@ pub(crate) fn not_modelled(alloc: Global, word: &[u8], reason: Reason) -> TopFau
 pub(crate) fn work_fault(alloc: Global, word: &[u8], fault: ApplyFault) -> TopFault
     ensures is_fault { IsWorkFault word.now fault result }
     ensures no_usage { result ≢ TopFault.Usage }
+    ensures no_input { result ≢ TopFault.InputFailed }
 {
     match fault {
         ApplyFault::Refused(refusal) => TopFault::FileRefused(refusal),

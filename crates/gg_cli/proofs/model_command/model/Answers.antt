@@ -9,7 +9,7 @@ use Rattle.gg_cli.proofs.WorkMakesTheAnswer.{plan_cause, plan_stops, plan_unfile
 use Rattle.gg_cli.proofs.model_command.model.Goals as goal
 
 pub returns-in-Ok-clause-ends : goal.returns-in-Ok-clause-ends
-returns-in-Ok-clause-ends g c tells tell told = rw c.in-Ok.ensures.exact (c.apply_plan.ensures.ends tells tell told)
+returns-in-Ok-clause-ends g c tells tell told = rw c.in-Ok.ensures.exact (c.apply.ensures.ends tells tell told)
 
 pub returns-in-Err-clause-ends : goal.returns-in-Err-clause-ends
 returns-in-Err-clause-ends g c tells tell told =
