@@ -6,7 +6,7 @@ use crate::scene::Scene;
 use blob_store::MemKeeper;
 use file_tree::MemTree;
 use gg_cli::gg_top;
-use object_name::{Bytes, Many, MemSink, Name};
+use object_name::{Bytes, Many, MemSink, MemSource, Name};
 use std::alloc::{AllocError, Global};
 use thunk_codec::Path;
 
@@ -26,6 +26,7 @@ pub struct Ran {
 struct Edge {
     keeper: Recorder,
     tree: MemTree,
+    input: MemSource,
     out: MemSink,
     err: MemSink,
 }
@@ -50,20 +51,32 @@ fn tree_of(
     MemTree::new(alloc, files, failing)
 }
 
+/// A source of some bytes.
+fn source_of(alloc: Global, bytes: &[u8], failing: Many<u64>) -> Result<MemSource, AllocError> {
+    MemSource::new(Bytes::from_slice(alloc, bytes)?, failing)
+}
+
 /// A sink that has taken nothing.
 fn sink_of(alloc: Global, failing: Many<u64>) -> Result<MemSink, AllocError> {
     MemSink::new(alloc, failing)
 }
 
 impl Edge {
-    fn new(alloc: Global, scene: Scene, failing: Failing) -> Result<Self, AllocError> {
+    fn new(
+        alloc: Global,
+        scene: Scene,
+        input: &[u8],
+        failing: Failing,
+    ) -> Result<Self, AllocError> {
         let keeper = keeper_of(alloc, scene.objects, scene.notes, failing.store)?;
         let tree = tree_of(alloc, scene.files, failing.files)?;
+        let input = source_of(alloc, input, failing.input)?;
         let out = sink_of(alloc, failing.output)?;
         let err = sink_of(alloc, Many::new(alloc))?;
         Ok(Edge {
             keeper,
             tree,
+            input,
             out,
             err,
         })
@@ -76,6 +89,7 @@ impl Edge {
             words,
             &mut self.keeper,
             &mut self.tree,
+            &mut self.input,
             &mut self.out,
             &mut self.err,
         );
@@ -86,6 +100,7 @@ impl Edge {
         Counts {
             store: self.keeper.calls(),
             files: self.tree.calls(),
+            input: self.input.calls(),
             output: self.out.calls(),
         }
     }
@@ -97,6 +112,7 @@ impl Edge {
             tree,
             out,
             err,
+            ..
         } = self;
         let files = tree.into_content()?;
         let (objects, notes, writes) = keeper.into_recorded();
@@ -120,9 +136,10 @@ pub fn run(
     alloc: Global,
     words: &[String],
     scene: Scene,
+    input: &[u8],
     failing: Failing,
 ) -> Result<Ran, AllocError> {
-    let mut edge = Edge::new(alloc, scene, failing)?;
+    let mut edge = Edge::new(alloc, scene, input, failing)?;
     let status = edge.status_of(alloc, words);
     edge.into_ran(status)
 }

@@ -5,6 +5,7 @@ use crate::differences::{calls_line, expect_line, expect_lines, writes_line};
 use crate::part::{Failing, Part};
 use crate::playing::Last;
 use crate::recorder::Write;
+use crate::scene::Scene;
 use crate::sections::Sections;
 use crate::wrong::Wrong;
 use std::alloc::{AllocError, Global};
@@ -14,6 +15,9 @@ const ALL_CHANGED: &str = "all files are changed";
 
 /// What is said of the files where not all are.
 const NOT_ALL_CHANGED: &str = "not all files are changed";
+
+/// What is said of the files where none is changed.
+const NONE_CHANGED: &str = "no file is changed";
 
 /// How a command is disturbed: of which part so many calls in a row fail, and whether it goes on.
 #[derive(Clone, Copy)]
@@ -62,6 +66,7 @@ impl Disturbance {
         match self.part {
             Part::Store => ("! gg: store fault", "= 12"),
             Part::Files => ("! gg: file fault", "= 13"),
+            Part::Input => ("! gg: input fault", "= 14"),
             Part::Output => ("! gg: output fault", "= 14"),
         }
     }
@@ -150,15 +155,23 @@ impl Disturbed<'_> {
     fn compare(&self) -> Result<(), Wrong> {
         let failing = self.disturbance.failing(self.alloc, self.first)?;
         let before = self.last.before.copy(self.alloc)?;
-        let ran = run(self.alloc, self.last.words.as_slice(), before, failing)?;
+        let ran = self.run_over(before, failing)?;
         if self.disturbance.goes_on {
             return self.goes_on(&ran);
         }
         self.ends(&ran)?;
         match self.disturbance.part {
             Part::Output => self.has_left_all(&ran),
-            _ => self.goes_on_again(ran),
+            Part::Input => self.has_left_nothing(ran),
+            Part::Store | Part::Files => self.goes_on_again(ran),
         }
+    }
+
+    /// Runs the command again over a store and files.
+    fn run_over(&self, scene: Scene, failing: Failing) -> Result<Ran, AllocError> {
+        let words = self.last.words.as_slice();
+        let input = self.last.input.as_slice();
+        run(self.alloc, words, scene, input, failing)
     }
 
     /// The undisturbed answer comes, with some calls more.
@@ -167,7 +180,7 @@ impl Disturbed<'_> {
         self.has_left_all(ran)?;
         let Disturbance { part, times, .. } = self.disturbance;
         let expected = self.last.ran.calls.with_further(part, times);
-        for part in [Part::Store, Part::Files, Part::Output] {
+        for part in [Part::Store, Part::Files, Part::Input, Part::Output] {
             self.made_calls(ran, part, expected.of(part))?;
         }
         Ok(())
@@ -213,7 +226,7 @@ impl Disturbed<'_> {
     fn printed_a_prefix(&self, ran: &Ran) -> bool {
         match self.disturbance.part {
             Part::Output => self.last.ran.out.as_slice().starts_with(ran.out.as_slice()),
-            Part::Store | Part::Files => false,
+            Part::Store | Part::Files | Part::Input => false,
         }
     }
 
@@ -266,12 +279,29 @@ impl Disturbed<'_> {
         expect_line(self.alloc, self.number, expected, got)
     }
 
+    /// Nothing was written, no file is changed, and the same command over what is left does all.
+    fn has_left_nothing(&self, ran: Ran) -> Result<(), Wrong> {
+        self.wrote(&[], ran.writes.as_slice())?;
+        self.has_no_file(&ran)?;
+        self.goes_on_again(ran)
+    }
+
+    /// No file is changed.
+    fn has_no_file(&self, ran: &Ran) -> Result<(), Wrong> {
+        let got = if ran.left.files == self.last.before.files {
+            NONE_CHANGED
+        } else {
+            NOT_ALL_CHANGED
+        };
+        expect_line(self.alloc, self.number, NONE_CHANGED, got)
+    }
+
     /// How many of the undisturbed command's writes were to be made before a call failed.
     fn writes_before(&self, ran: &Ran) -> usize {
         let all = self.last.ran.writes.as_slice();
         match self.disturbance.part {
             Part::Store => before_call(all, self.first),
-            Part::Files | Part::Output => ran.writes.len(),
+            Part::Files | Part::Input | Part::Output => ran.writes.len(),
         }
     }
 
@@ -283,8 +313,7 @@ impl Disturbed<'_> {
         let (made, others) = all.split_at(before);
         self.wrote(made, ran.writes.as_slice())?;
         let Ran { left, .. } = ran;
-        let none = Failing::none(self.alloc);
-        let again = run(self.alloc, self.last.words.as_slice(), left, none)?;
+        let again = self.run_over(left, Failing::none(self.alloc))?;
         self.answers(&again)?;
         self.wrote(others, again.writes.as_slice())?;
         self.has_files(&again, ALL_CHANGED)

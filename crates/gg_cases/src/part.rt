@@ -8,6 +8,7 @@ use std::alloc::{AllocError, Global};
 pub enum Part {
     Store,
     Files,
+    Input,
     Output,
 }
 
@@ -17,6 +18,7 @@ impl Part {
         match word {
             "store" => Some(Part::Store),
             "files" => Some(Part::Files),
+            "input" => Some(Part::Input),
             "output" => Some(Part::Output),
             _ => None,
         }
@@ -26,6 +28,7 @@ impl Part {
         match self {
             Part::Store => "store",
             Part::Files => "files",
+            Part::Input => "input",
             Part::Output => "output",
         }
     }
@@ -36,6 +39,7 @@ impl Part {
 pub struct Failing {
     pub store: Many<u64>,
     pub files: Many<u64>,
+    pub input: Many<u64>,
     pub output: Many<u64>,
 }
 
@@ -45,6 +49,7 @@ impl Failing {
         Failing {
             store: Many::new(alloc),
             files: Many::new(alloc),
+            input: Many::new(alloc),
             output: Many::new(alloc),
         }
     }
@@ -54,6 +59,7 @@ impl Failing {
         match part {
             Part::Store => self.store.push(call)?,
             Part::Files => self.files.push(call)?,
+            Part::Input => self.input.push(call)?,
             Part::Output => self.output.push(call)?,
         }
         Ok(())
@@ -65,6 +71,7 @@ impl Failing {
 pub struct Counts {
     pub store: u64,
     pub files: u64,
+    pub input: u64,
     pub output: u64,
 }
 
@@ -75,6 +82,7 @@ impl Counts {
         match part {
             Part::Store => counts.store = counts.store.saturating_add(calls),
             Part::Files => counts.files = counts.files.saturating_add(calls),
+            Part::Input => counts.input = counts.input.saturating_add(calls),
             Part::Output => counts.output = counts.output.saturating_add(calls),
         }
         counts
@@ -84,6 +92,7 @@ impl Counts {
         match part {
             Part::Store => self.store,
             Part::Files => self.files,
+            Part::Input => self.input,
             Part::Output => self.output,
         }
     }

@@ -8,15 +8,16 @@ use crate::part::{Failing, Part};
 use crate::scene::Scene;
 use crate::sections::{Sections, path_of};
 use crate::wrong::Wrong;
-use object_name::Bytes;
+use object_name::{Bytes, TryCopy};
 use std::alloc::{AllocError, Global};
 
-/// The last command: its words, where it began, and what it did.
+/// The last command: its words, where it began, what it could read, and what it did.
 #[derive(Drop)]
 pub struct Last {
     pub number: usize,
     pub words: Vec<String>,
     pub before: Scene,
+    pub input: Bytes,
     pub ran: Ran,
 }
 
@@ -35,9 +36,13 @@ struct Play<'a> {
     alloc: Global,
     sections: &'a Sections,
     start: Scene,
+    input: Bytes,
     failing: Failing,
     last: Option<Last>,
 }
+
+/// What is said of a word that names no part.
+const NO_PART: &str = "neither store, files, input nor output";
 
 /// A fault of form.
 fn bad(number: usize, why: &'static str) -> Wrong {
@@ -61,6 +66,7 @@ pub fn play_case(alloc: Global, sections: &Sections, case: &Case<'_>) -> Result<
         alloc,
         sections,
         start: Scene::of(alloc, sections)?,
+        input: Bytes::new(alloc),
         failing: Failing::none(alloc),
         last: None,
     };
@@ -79,6 +85,7 @@ impl Play<'_> {
         let (word, rest) = text.split_once(' ').unwrap_or((text.as_str(), ""));
         match word {
             "$" => self.command(step, rest),
+            "input" => self.read_from(number, rest),
             "failing" => self.fail(number, rest),
             "file" | "note" | "object" => self.holds(number, word, rest),
             "placeholder" => self.is_placeholder(number, rest),
@@ -97,8 +104,15 @@ impl Play<'_> {
             Some(last) => last.into_left(),
             None => self.start.copy(alloc)?,
         };
+        let input = self.input.copy(alloc)?;
         let failing = std::mem::replace(&mut self.failing, Failing::none(alloc));
-        let ran = run(alloc, words.as_slice(), before.copy(alloc)?, failing)?;
+        let ran = run(
+            alloc,
+            words.as_slice(),
+            before.copy(alloc)?,
+            input.as_slice(),
+            failing,
+        )?;
         let expected = self.expected(step)?;
         let got = ran.transcript(alloc)?;
         expect_lines(
@@ -113,6 +127,7 @@ impl Play<'_> {
             number,
             words,
             before,
+            input,
             ran,
         });
         Ok(())
@@ -132,12 +147,18 @@ impl Play<'_> {
         Ok(lines)
     }
 
+    /// Names the section that the next commands read.
+    fn read_from(&mut self, number: usize, name: &str) -> Result<(), Wrong> {
+        self.input = self.sections.get(number, name)?.bytes.copy(self.alloc)?;
+        Ok(())
+    }
+
     /// Lists calls of the next command that fail.
     fn fail(&mut self, number: usize, text: &str) -> Result<(), Wrong> {
         let (word, calls) = text
             .split_once(' ')
             .ok_or(bad(number, "no calls are listed"))?;
-        let part = Part::read(word).ok_or(bad(number, "neither store, files nor output"))?;
+        let part = Part::read(word).ok_or(bad(number, NO_PART))?;
         for call in calls.split(' ') {
             let call = call.parse::<u64>().ok();
             self.failing
@@ -203,11 +224,7 @@ impl Play<'_> {
             Some(text) => {
                 let word = text.split(' ').next().unwrap_or("");
                 let part = Part::read(word);
-                calls_line(
-                    alloc,
-                    &last.ran,
-                    part.ok_or(bad(number, "neither store, files nor output"))?,
-                )?
+                calls_line(alloc, &last.ran, part.ok_or(bad(number, NO_PART))?)?
             }
             None => writes_line(alloc, last.ran.writes.as_slice())?,
         };
