@@ -1,6 +1,8 @@
-//! Tests of names, paths, orders, thunks and placeholders, by public calls that no program makes.
+//! Tests of names, paths, orders, thunks, placeholders and frames, by public calls that no program makes.
 #![tactic(auto)]
 
+#[cfg(test)]
+mod frames;
 #[cfg(test)]
 mod names;
 #[cfg(test)]

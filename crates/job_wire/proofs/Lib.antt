@@ -1,0 +1,10 @@
+pub mod Fields
+pub mod Loop
+pub mod Writes
+pub mod Paths
+pub mod Jobs
+pub mod Outcomes
+pub mod Messages
+pub mod Sessions
+pub mod Cuts
+pub mod PublicLaws
