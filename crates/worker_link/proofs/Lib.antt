@@ -1,0 +1,5 @@
+pub mod Inputs
+pub mod Servings
+pub mod Queues
+pub mod Scripts
+pub mod RepliesFound
