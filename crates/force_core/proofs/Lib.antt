@@ -1,0 +1,4 @@
+pub mod Replay
+pub mod Same
+pub mod Counts
+pub mod Untaken
