@@ -1,9 +1,11 @@
 //! The program gg: makes the store, the tree, the outputs and the words real, and hands them to the call that does the work.
 #![tactic(auto)]
 
+mod worker;
+
 use blob_store::FolderKeeper;
 use file_tree::{FolderTree, STORE};
-use gg_cli::{Status, gg_top};
+use gg_cli::{Command, Status, WordFault, gg_top, read_words};
 use object_name::{ReadSource, Sink, WriteSink, write_all};
 use std::alloc::AllocError;
 use std::io::ErrorKind;
@@ -28,17 +30,15 @@ fn words(rt: &HostRuntime) -> Result<Vec<String>, AllocError> {
     Ok(words)
 }
 
-/// Does the command line of the process.
-fn run<E: Sink>(rt: &HostRuntime, err: &mut E) -> Result<Status, AllocError> {
+/// Does a command line without links.
+fn do_here<E: Sink>(rt: &HostRuntime, words: &[String], err: &mut E) -> Result<Status, AllocError> {
     let alloc = rt.alloc();
-    let words = words(rt)?;
     let process = process::id(rt.process());
     let mut keeper = FolderKeeper::new(alloc, HostRuntime::clone(rt)?, STORE, process)?;
     let mut tree = FolderTree::new(alloc, HostRuntime::clone(rt)?, FOLDER, process)?;
     let mut input = ReadSource::new(rt.reader());
     let stdout = rt.stdout();
     let mut out = WriteSink::new(io::writer(&stdout));
-    let words = words.as_slice();
     Ok(gg_top(
         alloc,
         words,
@@ -48,6 +48,17 @@ fn run<E: Sink>(rt: &HostRuntime, err: &mut E) -> Result<Status, AllocError> {
         &mut out,
         err,
     ))
+}
+
+/// Does the command line of the process.
+fn run<E: Sink>(rt: &HostRuntime, err: &mut E) -> Result<Status, AllocError> {
+    let words = words(rt)?;
+    let words = words.as_slice();
+    match read_words(rt.alloc(), words) {
+        Ok(Command::Worker { address, times }) => worker::serve(rt, address.as_slice(), times, err),
+        Err(WordFault::Memory) => Err(AllocError),
+        _ => do_here(rt, words, err),
+    }
 }
 
 fn main(rt: HostRuntime) -> ExitCode {

@@ -1,5 +1,5 @@
 -- The law on builds, by the answers of the commands.
-use Rattle.std.proofs.Common.{◌≡◌, ◌≤◌, ℕ, List, [], ◌∷◌, ◌++◌, length, unwrap_or, Option, Some, None, IsSome, refl, sym, ap, subst, ◌∙◌, append-nil}
+use Rattle.std.proofs.Common.{◌≡◌, ◌≤◌, ℕ, List, [], ◌∷◌, length, unwrap_or, Option, Some, None, IsSome, refl, sym, ap, subst, ◌∙◌, append-nil}
 use Rattle.object_name.specs.Name.{ObjectName, max_size}
 use Rattle.blob_store.specs.Store.{Store, held, written}
 use Rattle.file_tree.specs.Files.{Files, changed}

@@ -1,5 +1,5 @@
 -- How reading the input makes the answer.
-use Rattle.std.proofs.Common.{◌≡◌, ◌<◌, ◌≤◌, ◌⊎◌, ℕ, List, [], length, Bool, true, false, leb, Option, Some, Result, Ok, Err, IsErr, IsErrAnd, inl, inr, refl, sym, ap, subst, ◌∙◌, if◌then◌else◌}
+use Rattle.std.proofs.Common.{◌≡◌, ◌<◌, ◌≤◌, ℕ, List, [], length, Bool, true, false, Option, Some, Result, Ok, Err, IsErr, IsErrAnd, inl, inr, refl, sym, ap, subst, if◌then◌else◌}
 use Rattle.std.specs.Prelude.{IfSome}
 use Rattle.std.proofs.lemmas.Bool.{le-leb, lt-leb}
 use Rattle.std.proofs.KnownBytes.{Appends-nil}
@@ -10,7 +10,7 @@ use Rattle.file_tree.proofs.PublicLaws.{all_changed-none}
 use Rattle.file_tree.specs.Files.{Filed, Files}
 use Rattle.object_name.specs.Name.{max_size}
 use Rattle.gg_cli.specs.declared.command.Command.{Command}
-use Rattle.gg_cli.specs.declared.command.Command.TheVariants.{Force, CreateThunk, Model, Infer, Build, Describe}
+use Rattle.gg_cli.specs.declared.command.Command.TheVariants.{Force, CreateThunk, Model, Infer, Build, Describe, Worker, Help}
 use Rattle.need_eval.specs.declared.fault.Refusal.TheVariants as refusals
 use Rattle.gg_cli.specs.declared.fault.TopFault.{TopFault}
 use Rattle.gg_cli.specs.declared.fault.TopFault.TheVariants as tops
@@ -18,8 +18,8 @@ use Rattle.gg_cli.specs.declared.status.Status.{Status}
 use Rattle.gg_cli.specs.Answer.{Answer, answer_of_command, ended_by, within}
 use Rattle.gg_cli.specs.Comes.{Counts, Made}
 use Rattle.gg_cli.specs.Endings.{ending_of}
-use Rattle.gg_cli.specs.InputText.{EndsInput, GivesText, Input, IsPartRead, Leaves, LeavesInput, ReadsText, StopsInput, TellsText}
-use Rattle.gg_cli.specs.StepContracts.{Ends, EndCause, EndsAt, FailsBefore, InputEnd, Speaks, TopEndCause, TopEnds, file_faults_of, kept_faults_of, only_store}
+use Rattle.gg_cli.specs.InputText.{EndsInput, GivesText, Input, Leaves, LeavesInput, StopsInput, TellsText}
+use Rattle.gg_cli.specs.StepContracts.{Ends, EndCause, EndsAt, InputEnd, Speaks, TopEndCause, TopEnds, file_faults_of, kept_faults_of, only_store}
 use Rattle.gg_cli.specs.Words.{reads_input}
 use Rattle.gg_cli.proofs.OnePart.{nothing-made}
 
@@ -41,6 +41,8 @@ module _ (store : Store) (files : Files) where
   unread-answer Infer is x y = absurd (cc is)
   unread-answer Build is x y = absurd (cc is)
   unread-answer (Describe item) is x y = refl
+  unread-answer (Worker address times) is x y = refl
+  unread-answer Help is x y = refl
 
   -- one that reads it answers so where it is too long
   over-answer : (command : Command) → reads_input command ≡ true → (text : List ℕ) → max_size < length text → answer_of_command (Some command) text store files ≡ ended_by [] [] tops.InputTooLong
@@ -50,6 +52,8 @@ module _ (store : Store) (files : Files) where
   over-answer Infer is text over = within-over text _ over
   over-answer Build is text over = within-over text _ over
   over-answer (Describe item) is text over = absurd (cc is)
+  over-answer (Worker address times) is text over = absurd (cc is)
+  over-answer Help is text over = absurd (cc is)
 
 -- the text that the input tells is the one that was read
 told-text : (left : Option (List ℕ)) (text bytes : List ℕ) → left ≡ Some text → IfSome left (λ all. bytes ≡ all) → bytes ≡ text
@@ -108,11 +112,15 @@ module _ (command : Command) (before after : Input) (kept : Kept) (files : Filed
   unread_ends = on_ends (reads_input command) refl
 
 -- the input failed, and nothing is done
-pub unread_input : (reads : Bool) (before after : Input) (kept : Kept) (files : Filed) (out : Option (List ℕ)) (fault : TopFault) → GivesText reads before after (Err fault)
-    → InputEnd {T = Unit {0}} (only_store kept kept files out) before.faults after.faults (Err fault)
-unread_input false before after kept files out fault gives = absurd gives
-unread_input true before after kept files out tops.InputFailed gives = record { rose = gives.1; nothing = record { kept = refl; files = refl; out = refl } }
-unread_input true before after kept files out fault gives = tt
+pub unread_input : (command : Command) (before after : Input) (kept : Kept) (files : Filed) (out : Option (List ℕ)) (fault : TopFault) → GivesText (reads_input command) before after (Err fault)
+    → InputEnd {T = Unit {0}} (Some command) (only_store kept kept files out) before.faults after.faults (Err fault)
+unread_input command before after kept files out = on (reads_input command) refl
+  where
+    on : (reads : Bool) → reads_input command ≡ reads → (fault : TopFault) → GivesText reads before after (Err fault)
+        → InputEnd {T = Unit {0}} (Some command) (only_store kept kept files out) before.faults after.faults (Err fault)
+    on false is fault gives = absurd gives
+    on true is tops.InputFailed gives = record { is_read = is; rose = gives.1; nothing = record { kept = refl; files = refl; out = refl } }
+    on true is fault gives = tt
 
 -- no count of another part has risen
 pub unread_cause : (reads : Bool) (before after : Input) (retries : ℕ) (counts : Counts) (fault : TopFault) → GivesText reads before after (Err fault) → TopEndCause {T = Unit {0}} retries counts (Err fault)

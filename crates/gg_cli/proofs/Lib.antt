@@ -20,3 +20,4 @@ pub mod ScriptsMakeTheAnswer
 pub mod BuildsMakeTheAnswer
 pub mod LinesCauseTheEnd
 pub mod CommandsAgree
+pub mod AddressesAreCut

@@ -13,7 +13,7 @@ use Rattle.gg_cli.specs.declared.fault.TopFault.TheVariants as tops
 use Rattle.gg_cli.specs.declared.status.Status.{Status}
 use Rattle.gg_cli.specs.declared.status.Status.TheVariants.{Memory}
 use Rattle.gg_cli.specs.declared.command.Command.{Command}
-use Rattle.gg_cli.specs.Words.{command_of}
+use Rattle.gg_cli.specs.Words.{command_here}
 use Rattle.gg_cli.specs.Answer.{Answer, answer_of, answer_of_command}
 use Rattle.gg_cli.specs.Endings.{ending_of, line_of}
 use Rattle.gg_cli.specs.Comes.{Made, Comes, Counts, IsInputFault, Says, SaysUntold, SaysWhole, SaysPrefix, TopCause, status_line}
@@ -25,12 +25,12 @@ use Rattle.gg_cli.proofs.OnePart.{nothing-made}
 
 -- ---- the answer, by the words
 
-pub answer_of-found : (words : List (List ℕ)) (text : List ℕ) (store : Store) (files : Files) (command : Command) → command_of words ≡ Some command
+pub answer_of-found : (words : List (List ℕ)) (text : List ℕ) (store : Store) (files : Files) (command : Command) → command_here words ≡ Some command
     → answer_of words text store files ≡ answer_of_command (Some command) text store files
 unfolding answer_of
 answer_of-found words text store files command is = ap (λ found. answer_of_command found text store files) is
 
-pub usage_ends : (words : List (List ℕ)) (text : List ℕ) (kept : Kept) (files : Filed) (told : Option (List ℕ)) → command_of words ≡ None
+pub usage_ends : (words : List (List ℕ)) (text : List ℕ) (kept : Kept) (files : Filed) (told : Option (List ℕ)) → command_here words ≡ None
     → EndsAt (answer_of words text kept.store files.files) (only_store kept kept files told) tops.Usage
 unfolding answer_of
 usage_ends words text kept files told is = rw is (record { comes = record { is_status = refl; all = record { kept = all_written-none kept; files = all_changed-none files }; text = Appends-nil told }; line = refl })
@@ -87,20 +87,20 @@ cause_or : (retries : ℕ) (counts : Counts) (fault : TopFault) → TopEndCause 
 cause_or retries counts tops.InputFailed h = inl refl
 cause_or retries counts fault h = inr h
 
-module _ (m : Made) (status : Status) (i j : ℕ) (b c : Option (List ℕ)) (f g : ℕ) where
+module _ (command : Option Command) (m : Made) (status : Status) (i j : ℕ) (b c : Option (List ℕ)) (f g : ℕ) where
   abbrev InputFault : Type 0
-  InputFault = IsInputFault m status i j b c f g
+  InputFault = IsInputFault command m status i j b c f g
 
   -- the input failed: its line is said, or memory ran out for that
-  input_or : FailsBefore m i j → Speaks tops.InputFailed status b c f g → InputFault ⊎ ((status ≡ Memory) × AppendsPrefix b c (line_of tops.InputFailed))
-  input_or end (inl h) = inl (record { is_status = h.0; rose = end.rose; nothing = end.nothing; line = h.1 })
+  input_or : FailsBefore command m i j → Speaks tops.InputFailed status b c f g → InputFault ⊎ ((status ≡ Memory) × AppendsPrefix b c (line_of tops.InputFailed))
+  input_or end (inl h) = inl (record { is_read = end.is_read; is_status = h.0; rose = end.rose; nothing = end.nothing; line = h.1 })
   input_or end (inr h) = inr h
 
-  module _ (fault : TopFault) (said : Speaks fault status b c f g) (end : InputEnd {T = Unit {0}} m i j (Err fault)) where
+  module _ (fault : TopFault) (said : Speaks fault status b c f g) (end : InputEnd {T = Unit {0}} command m i j (Err fault)) where
     -- what is so where the input failed, by what is so where memory ran out then
-    failed : {P : Type 0} → fault ≡ tops.InputFailed → (FailsBefore m i j → status ≡ Memory → AppendsPrefix b c (line_of tops.InputFailed) → P) → InputFault ⊎ P
+    failed : {P : Type 0} → fault ≡ tops.InputFailed → (FailsBefore command m i j → status ≡ Memory → AppendsPrefix b c (line_of tops.InputFailed) → P) → InputFault ⊎ P
     failed is memory =
-        let before = subst (λ (fault : TopFault). InputEnd {T = Unit {0}} m i j (Err fault)) is end in
+        let before = subst (λ (fault : TopFault). InputEnd {T = Unit {0}} command m i j (Err fault)) is end in
         elim (input_or before (subst (λ (fault : TopFault). Speaks fault status b c f g) is said)) [ inl h ↦ inl h | inr h ↦ inr (memory before h.0 h.1) ]
 
     pub whole_comes : (a : Answer) → TopEnds {T = Unit {0}} a m (Err fault) → InputFault ⊎ Comes a m status

@@ -151,6 +151,17 @@ module _ (parts : List Part) (text : List ℕ) (m : Made) (f g : ℕ) (all : Mad
   all_unprinted T troubles.Failed h = record { comes = record { done = refl; prints = record { all = all; text = h.prefix } }; line = refl }
   all_unprinted T troubles.Memory h = record { comes = inr (record { all = all; text = h.prefix }); line = refl }
 
+-- nothing is to be made, and the text is printed
+module _ (text : List ℕ) (kept : Kept) (files : Filed) (b c : Option (List ℕ)) (f g : ℕ) where
+  nothing-whole : MadeAll (all_done [] text) (handed kept kept files files b c)
+  nothing-whole = record { kept = all_written-none kept; files = all_changed-none files }
+
+  pub text_printed : {T : Type 0} (v : T) → Writes text b c f g (Ok v) → Ends {T = T} (all_done [] text) (handed kept kept files files b c) (Ok v)
+  text_printed v h = all_printed [] text (handed kept kept files files b c) f g nothing-whole v h
+
+  pub text_unprinted : (T : Type 0) (e : Trouble) → Writes {T = T} text b c f g (Err e) → EndsAt (all_done [] text) (handed kept kept files files b c) (output_fault e)
+  text_unprinted T e h = all_unprinted [] text (handed kept kept files files b c) f g nothing-whole T e h
+
 module _ (writes : List Write) (text : List ℕ) (before after : Kept) (made : after ≡ all_written before writes) (files_before files_after : Filed) (b c : Option (List ℕ)) (f g : ℕ)
     (changes : List Change) (all : files_after ≡ all_changed files_before changes) where
   whole : MadeAll (done writes changes text) (handed before after files_before files_after b c)

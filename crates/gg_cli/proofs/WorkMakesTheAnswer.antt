@@ -1,11 +1,10 @@
 -- How work that a command does makes its answer.
-use Rattle.std.proofs.Common.{◌≡◌, ℕ, List, [], Option, Ok, Err, inl, inr, refl, sym, ap, subst, ◌∙◌, append-nil}
+use Rattle.std.proofs.Common.{◌≡◌, ℕ, List, [], Option, Ok, Err, inl, inr, refl, sym, ap, append-nil}
 use Rattle.std.proofs.KnownBytes.{Appends-nil}
 use Rattle.object_name.specs.declared.trouble.Trouble.{Trouble}
-use Rattle.blob_store.specs.Store.{Store, Write}
-use Rattle.blob_store.specs.Keeping.{Kept, WritesPrefix, all_written}
-use Rattle.file_tree.specs.Files.{ChangesPrefix, Files}
-use Rattle.file_tree.specs.declared.change.Change.{Change}
+use Rattle.blob_store.specs.Store.{Store}
+use Rattle.blob_store.specs.Keeping.{Kept}
+use Rattle.file_tree.specs.Files.{Files}
 use Rattle.file_tree.specs.declared.model_fault.ApplyFault.{ApplyFault}
 use Rattle.file_tree.specs.declared.model_fault.ApplyFault.TheVariants as applies
 use Rattle.file_tree.specs.declared.model_fault.PlanFault.{PlanFault}

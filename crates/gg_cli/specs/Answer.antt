@@ -34,9 +34,10 @@ use Rattle.gg_cli.specs.declared.fault.TopFault.TheVariants as faults
 use Rattle.gg_cli.specs.declared.status.Status.{Status}
 use Rattle.gg_cli.specs.declared.status.Status.TheVariants.{Done}
 use Rattle.gg_cli.specs.declared.command.Command.{Command}
-use Rattle.gg_cli.specs.declared.command.Command.TheVariants.{Force, CreateThunk, Model, Infer, Build, Describe}
-use Rattle.gg_cli.specs.Words.{command_of}
+use Rattle.gg_cli.specs.declared.command.Command.TheVariants.{Force, CreateThunk, Model, Infer, Build, Describe, Worker, Help}
+use Rattle.gg_cli.specs.Words.{command_here}
 use Rattle.gg_cli.specs.Description.{description}
+use Rattle.gg_cli.specs.HelpText.{help_text}
 use Rattle.sandbox_run.specs.Cards.{card_outcome}
 use Rattle.gg_cli.specs.Endings.{ending_of, line_of}
 use Rattle.gg_cli.specs.ValueLines.{value_lines}
@@ -58,10 +59,11 @@ all_done parts text = record { parts = parts; status = Done; text = text; line =
 abbrev pub halted_by : List Part → TopFault → Answer
 halted_by parts fault = record { parts = parts; status = (ending_of fault).status; text = []; line = line_of fault }
 
--- the same, where one part is all
+-- all is done, where one part is all
 abbrev pub done : List Write → List Change → List ℕ → Answer
 done writes changes text = all_done (one_part writes changes) text
 
+-- a fault ends it, where one part is all
 abbrev pub ended_by : List Write → List Change → TopFault → Answer
 ended_by writes changes fault = halted_by (one_part writes changes) fault
 
@@ -141,10 +143,11 @@ abbrev pub scripted : {S : Type 0} → (ℕ → S → List ℕ) → List Part �
 scripted text parts (Finished commands s) = all_done parts (text commands s)
 scripted text parts (Halted halt s) = halted_by parts (halt_fault halt)
 
--- what `infer` prints, and what `build` does
+-- what `infer` prints
 abbrev pub infer_prints : ℕ → Work → List ℕ
 infer_prints commands work = inferred_text (at_most commands) (at_most work.thunks)
 
+-- what `build` prints
 abbrev pub build_prints : ℕ → Ran → List ℕ
 build_prints commands ran = count_line (codes "commands ") (at_most commands)
 
@@ -190,7 +193,9 @@ answer_of_command (Some (Model words)) text store files = modelled words store f
 answer_of_command (Some Infer) text store files = within text (inferred text store files)
 answer_of_command (Some Build) text store files = within text (built text files)
 answer_of_command (Some (Describe item)) text store files = described item store files
+answer_of_command (Some (Worker address times)) text store files = ended_by [] [] faults.Usage
+answer_of_command (Some Help) text store files = all_done [] help_text
 
 -- the answer of some words, where the input has this text
 unfoldable pub answer_of : List (List ℕ) → List ℕ → Store → Files → Answer
-answer_of words text store files = answer_of_command (command_of words) text store files
+answer_of words text store files = answer_of_command (command_here words) text store files

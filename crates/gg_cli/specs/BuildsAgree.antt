@@ -13,10 +13,11 @@ use Rattle.gg_cli.specs.declared.status.Status.TheVariants.{Done}
 use Rattle.gg_cli.specs.Answer.{Answer, answer_of_command}
 use Rattle.gg_cli.specs.Parts.{all_changes, all_writes}
 
--- the store, and the files, after all that an answer does
+-- the store after all that an answer does
 abbrev pub store_after : Answer → Store → Store
 store_after answer store = written store (all_writes answer.parts)
 
+-- the files after all that an answer does
 abbrev pub files_after : Answer → Files → Files
 files_after answer files = changed files (all_changes answer.parts)
 

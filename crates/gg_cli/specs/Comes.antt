@@ -1,5 +1,5 @@
 -- When each status comes, and what it leaves, by the answer of the definition.
-use Rattle.std.specs.Prelude.{◌≡◌, ◌⊎◌, ℕ, List, [], ◌++◌, Option}
+use Rattle.std.specs.Prelude.{◌≡◌, ◌⊎◌, ℕ, List, [], ◌++◌, true, Option}
 use Rattle.std.specs.Io.KnownBytes.{Appends}
 use Rattle.object_name.specs.Causes.{Rose, RoseBy}
 use Rattle.object_name.specs.Streams.{AppendsPrefix}
@@ -8,6 +8,8 @@ use Rattle.file_tree.specs.Files.{Filed, ChangesPrefix, all_changed}
 use Rattle.gg_cli.specs.declared.status.Status.{Status}
 use Rattle.gg_cli.specs.declared.status.Status.TheVariants.{Done, Usage, StoreFault, FileFault, ByteFault, Memory}
 use Rattle.gg_cli.specs.declared.fault.TopFault.TheVariants as faults
+use Rattle.gg_cli.specs.declared.command.Command.{Command}
+use Rattle.gg_cli.specs.Words.{read_by}
 use Rattle.gg_cli.specs.Endings.{line_of}
 use Rattle.gg_cli.specs.Answer.{Answer}
 use Rattle.gg_cli.specs.Parts.{Part, all_changes, all_writes, first_part}
@@ -133,8 +135,9 @@ abbrev pub SaysWhole : List ℕ → Option (List ℕ) → Option (List ℕ) → 
 SaysWhole line before after faults_before faults_after =
     Appends before after line ⊎ (AppendsPrefix before after line × Rose faults_before faults_after)
 
--- the input failed, whose count rose: nothing is done, and the line of that is said
-pub record IsInputFault (m : Made) (status : Status) (input_before input_after : ℕ) (before after : Option (List ℕ)) (faults_before faults_after : ℕ) : Type 0 where
+-- the input that is read failed, and its count rose: nothing is done, and the line of that is said
+pub record IsInputFault (command : Option Command) (m : Made) (status : Status) (input_before input_after : ℕ) (before after : Option (List ℕ)) (faults_before faults_after : ℕ) : Type 0 where
+  pub is_read : read_by command ≡ true
   pub is_status : status ≡ ByteFault
   pub rose : Rose input_before input_after
   pub nothing : NothingDone m

@@ -1,13 +1,13 @@
 -- The words of `force`: `[--local]`, options in any order, and items.
 use Rattle.std.specs.Prelude.{ℕ, List, [], ◌∷◌, length, nat_le, Option, Some, None, unwrap_or, bytes_eq, codes, if◌then◌else◌}
-use Rattle.object_name.specs.Number.{number_of}
 use Rattle.text_lines.specs.Maybe.{◌>>=◌, ◌>>◌, check}
 use Rattle.gg_cli.specs.declared.command.Command.{Command}
 use Rattle.gg_cli.specs.declared.command.Command.TheVariants.{Force}
 use Rattle.gg_cli.specs.declared.force_words.Options.{Options}
 use Rattle.gg_cli.specs.ItemWords.{items_in}
+use Rattle.gg_cli.specs.NumberWords.{number_within}
 
--- the greatest number of steps where none is given, and the most that may be given
+-- the greatest number of steps where none is given
 abbrev pub default_budget : ℕ
 default_budget = 65536
 
@@ -15,7 +15,7 @@ default_budget = 65536
 abbrev pub max_budget : ℕ
 max_budget = 1048576
 
--- how often a failed call is tried again where no number is given, and the most that may be given
+-- how often a failed call is tried again where no number is given
 abbrev pub default_retries : ℕ
 default_retries = 2
 
@@ -29,18 +29,11 @@ max_items = 4096
 
 -- the number of steps that a word gives
 abbrev pub budget_of : List ℕ → Option ℕ
-budget_of word = do
-  budget ← number_of word
-  check (nat_le 1 budget)
-  check (nat_le budget max_budget)
-  Some budget
+budget_of word = number_within 1 max_budget word
 
 -- the number of retries that a word gives
 abbrev pub retries_of : List ℕ → Option ℕ
-retries_of word = do
-  retries ← number_of word
-  check (nat_le retries max_retries)
-  Some retries
+retries_of word = number_within 0 max_retries word
 
 -- no option is given yet
 abbrev pub no_options : Options

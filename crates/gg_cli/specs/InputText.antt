@@ -73,5 +73,6 @@ StopsInput before after status = IsAtEnd after.left
 abbrev pub Leaves : {T : Type 0} → Input → Input → Result T TopFault → Type 0
 Leaves before after result = IsPartRead before after × EndsInput before after result
 
+-- the same by its status
 abbrev pub LeavesInput : Input → Input → Status → Type 0
 LeavesInput before after status = IsPartRead before after × StopsInput before after status

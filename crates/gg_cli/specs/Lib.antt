@@ -1,13 +1,17 @@
 pub mod ItemWords
+pub mod NumberWords
 pub mod ForceWords
 pub mod CreateWords
+pub mod WorkerWords
 pub mod Words
 pub mod Reading
 pub mod Endings
 pub mod Pieces
+pub mod ConnectionEnds
 pub mod ValueLines
 pub mod ValueFiles
 pub mod Description
+pub mod HelpText
 pub mod Parts
 pub mod InputText
 pub mod Answer

@@ -1,11 +1,11 @@
 -- The parts of what a command line does: a command on its own has one, a script has one for each line that is begun.
-use Rattle.std.specs.Prelude.{ℕ, List, [], ◌∷◌, ◌++◌}
+use Rattle.std.specs.Prelude.{List, [], ◌∷◌, ◌++◌}
 use Rattle.blob_store.specs.Store.{Write}
 use Rattle.file_tree.specs.declared.change.Change.{Change}
-use Rattle.build_plan.specs.Symbolic.{Work, begun, symbolic}
+use Rattle.build_plan.specs.Symbolic.{Work}
 use Rattle.build_plan.specs.Way.{Way}
 use Rattle.build_script.specs.declared.lines.ScriptLine.{ScriptLine}
-use Rattle.build_script.specs.AtOnce.{Ran, not_run}
+use Rattle.build_script.specs.AtOnce.{Ran}
 use Rattle.build_script.specs.Script.{ScriptEnd, Finished, Halted, line_done}
 
 -- one part: first its writes to the store in order, and then its changes of files in order
@@ -13,19 +13,21 @@ pub record Part : Type 0 where
   pub writes : List Write
   pub changes : List Change
 
--- all writes of some parts, and all changes
+-- all writes of some parts
 abbrev pub all_writes : List Part → List Write
 all_writes [] = []
 all_writes (part ∷ parts) = part.writes ++ all_writes parts
 
+-- all changes of some parts
 abbrev pub all_changes : List Part → List Change
 all_changes [] = []
 all_changes (part ∷ parts) = part.changes ++ all_changes parts
 
--- a part that does nothing, and one that is all
+-- a part that does nothing
 abbrev pub no_part : Part
 no_part = record { writes = []; changes = [] }
 
+-- one part that is all
 abbrev pub one_part : List Write → List Change → List Part
 one_part writes changes = record { writes = writes; changes = changes } ∷ []
 
@@ -47,9 +49,10 @@ module _ {S A : Type 0} (way : Way S A) (afresh : S → S) (part : S → Part) w
   line_parts [] s = []
   line_parts (line ∷ lines) s = part_then part (line_done way line (afresh s)) (λ after. line_parts lines after)
 
--- what inferring did, and what building at once did, which writes nothing to the store
+-- what inferring did
 abbrev pub work_part : Work → Part
 work_part work = record { writes = work.writes; changes = work.changes }
 
+-- what building at once did, which writes nothing to the store
 abbrev pub ran_part : Ran → Part
 ran_part ran = record { writes = []; changes = ran.changes }

@@ -1,5 +1,5 @@
 -- What the steps of a command line promise: it ends done or at a fault, and then the line of the fault is said.
-use Rattle.std.specs.Prelude.{◌≡◌, ◌⊎◌, ℕ, List, [], Option, Some, Result, Ok, Err}
+use Rattle.std.specs.Prelude.{◌≡◌, ◌⊎◌, ℕ, List, [], true, Option, Some, Result, Ok, Err}
 use Rattle.object_name.specs.Name.{ObjectName}
 use Rattle.object_name.specs.Causes.{Rose, RoseBy}
 use Rattle.object_name.specs.Streams.{AppendsPrefix}
@@ -19,6 +19,8 @@ use Rattle.gg_cli.specs.declared.fault.FilingFault.{FilingFault}
 use Rattle.gg_cli.specs.declared.fault.FilingFault.TheVariants as filings
 use Rattle.gg_cli.specs.declared.status.Status.{Status}
 use Rattle.gg_cli.specs.declared.status.Status.TheVariants.{Done, Memory}
+use Rattle.gg_cli.specs.declared.command.Command.{Command}
+use Rattle.gg_cli.specs.Words.{read_by}
 use Rattle.gg_cli.specs.Endings.{ending_of, line_of}
 use Rattle.gg_cli.specs.LowerFaults.{filing_fault}
 use Rattle.gg_cli.specs.ValueFiles.{filed}
@@ -41,11 +43,12 @@ abbrev pub EndCause : {T : Type 0} → ℕ → Counts → Result T TopFault → 
 EndCause retries counts (Ok v) = Unit {0}
 EndCause retries counts (Err fault) = TopCause retries counts (ending_of fault).status
 
--- how many failures of the keeper, and of the tree, a fault is
+-- how many failures of the keeper a fault is
 abbrev pub kept_faults_of : TopFault → ℕ
 kept_faults_of tops.StoreFailed = 1
 kept_faults_of fault = 0
 
+-- how many failures of the tree it is
 abbrev pub file_faults_of : TopFault → ℕ
 file_faults_of tops.FileFailed = 1
 file_faults_of fault = 0
@@ -84,10 +87,11 @@ FilesValues changes before after (Err filings.StoreFailed) = ChangesPrefix chang
 FilesValues changes before after (Err filings.FileFailed) = ChangesPrefix changes before after
 FilesValues changes before after (Err filings.Memory) = ChangesPrefix changes before after
 
--- how many failures of the keeper, and of the tree, a fault of filing is
+-- how many failures of the keeper a fault of filing is
 abbrev pub kept_faults_filing : FilingFault → ℕ
 kept_faults_filing fault = kept_faults_of (filing_fault fault)
 
+-- how many failures of the tree it is
 abbrev pub file_faults_filing : FilingFault → ℕ
 file_faults_filing fault = file_faults_of (filing_fault fault)
 
@@ -142,16 +146,17 @@ file_counts kept files_before files_after out_before out_after =
 
 -- ---- the whole command line, whose input may fail too
 
--- the input failed, whose count rose, and nothing is done
-pub record FailsBefore (m : Made) (input_before input_after : ℕ) : Type 0 where
+-- the input that is read failed, its count rose, and nothing is done
+pub record FailsBefore (command : Option Command) (m : Made) (input_before input_after : ℕ) : Type 0 where
+  pub is_read : read_by command ≡ true
   pub rose : Rose input_before input_after
   pub nothing : NothingDone m
 
 -- where the input failed
-abbrev pub InputEnd : {T : Type 0} → Made → ℕ → ℕ → Result T TopFault → Type 0
-InputEnd m before after (Ok v) = Unit {0}
-InputEnd m before after (Err tops.InputFailed) = FailsBefore m before after
-InputEnd m before after (Err fault) = Unit {0}
+abbrev pub InputEnd : {T : Type 0} → Option Command → Made → ℕ → ℕ → Result T TopFault → Type 0
+InputEnd command m before after (Ok v) = Unit {0}
+InputEnd command m before after (Err tops.InputFailed) = FailsBefore command m before after
+InputEnd command m before after (Err fault) = Unit {0}
 
 -- where it didn't: done, or at a fault
 abbrev pub TopEnds : {T : Type 0} → Answer → Made → Result T TopFault → Type 0

@@ -4,10 +4,11 @@ use Rattle.text_lines.specs.Maybe.{◌>>=◌}
 use Rattle.file_tree.specs.Wanted.{IsItem}
 use Rattle.build_plan.specs.Fitting.{IsFitRecipe}
 use Rattle.gg_cli.specs.declared.command.Command.{Command}
-use Rattle.gg_cli.specs.declared.command.Command.TheVariants.{Force, CreateThunk, Model, Infer, Build, Describe}
+use Rattle.gg_cli.specs.declared.command.Command.TheVariants.{Force, CreateThunk, Model, Infer, Build, Describe, Worker, Help}
 use Rattle.gg_cli.specs.ItemWords.{output_item_of}
 use Rattle.gg_cli.specs.ForceWords.{default_retries, force_of}
 use Rattle.gg_cli.specs.CreateWords.{create_of}
+use Rattle.gg_cli.specs.WorkerWords.{worker_of}
 
 -- what follows `model`: the words of a command
 abbrev pub model_of : List (List ℕ) → Option Command
@@ -35,7 +36,24 @@ command_of (first ∷ words) =
     else if bytes_eq first (codes "infer") then alone Infer words
     else if bytes_eq first (codes "build") then alone Build words
     else if bytes_eq first (codes "describe") then describe_of words
+    else if bytes_eq first (codes "worker") then worker_of words
+    else if bytes_eq first (codes "help") then alone Help words
     else None
+
+-- a command, where it is done without links: all are but the one of a worker
+abbrev pub here : Command → Option Command
+here (Force budget retries items) = Some (Force budget retries items)
+here (CreateThunk recipe) = Some (CreateThunk recipe)
+here (Model words) = Some (Model words)
+here Infer = Some Infer
+here Build = Some Build
+here (Describe item) = Some (Describe item)
+here (Worker address times) = None
+here Help = Some Help
+
+-- the command that words are for a call without links
+unfoldable pub command_here : List (List ℕ) → Option Command
+command_here words = command_of words >>= here
 
 -- how often a command tries a failed call again; words that are none make no call
 abbrev pub retries_in : Option Command → ℕ
@@ -46,6 +64,8 @@ retries_in (Some (Model words)) = default_retries
 retries_in (Some Infer) = default_retries
 retries_in (Some Build) = default_retries
 retries_in (Some (Describe item)) = default_retries
+retries_in (Some (Worker address times)) = default_retries
+retries_in (Some Help) = default_retries
 
 -- whether a command reads the input
 abbrev pub reads_input : Command → Bool
@@ -55,6 +75,8 @@ reads_input (Model words) = false
 reads_input Infer = true
 reads_input Build = true
 reads_input (Describe item) = false
+reads_input (Worker address times) = false
+reads_input Help = false
 
 -- whether some words do: those that are no command line don't
 abbrev pub read_by : Option Command → Bool
@@ -69,3 +91,5 @@ IsCommand (Model words) = Unit {0}
 IsCommand Infer = Unit {0}
 IsCommand Build = Unit {0}
 IsCommand (Describe item) = IsItem item
+IsCommand (Worker address times) = Unit {0}
+IsCommand Help = Unit {0}

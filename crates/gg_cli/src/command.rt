@@ -27,4 +27,12 @@ pub enum Command {
     Build,
     /// What the thunk says of which an item is an output.
     Describe(Item),
+    /// The jobs of connections at an address, a host and a port as `HOST:PORT`, one connection after the other: of so many, or
+    /// without end.
+    Worker {
+        address: Bytes,
+        times: Option<u32>,
+    },
+    /// The first words of all commands.
+    Help,
 }

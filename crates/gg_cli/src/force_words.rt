@@ -7,18 +7,18 @@ ghost use Rattle.gg_cli.specs.Reading.{Finds};
 
 use crate::command::{Command, DEFAULT_RETRIES};
 use crate::item_words::read_each;
+use crate::number_words::read_within;
 use crate::word_fault::WordFault;
-use object_name::read_number;
 use std::alloc::Global;
 
 /// The greatest number of steps where none is given.
 const DEFAULT_BUDGET: u32 = 65_536;
 
 /// The greatest number of steps that may be given.
-const MAX_BUDGET: u64 = 1_048_576;
+const MAX_BUDGET: u32 = 1_048_576;
 
 /// The most tries again that may be given.
-const MAX_RETRIES: u64 = 16;
+const MAX_RETRIES: u32 = 16;
 
 /// The most items of a command line.
 const MAX_ITEMS: usize = 4_096;
@@ -36,25 +36,14 @@ struct Options {
 fn read_budget(word: &[u8]) -> Option<u32>
     ensures { result ≡ budget_of word.now }
 {
-    let budget = read_number(word)?;
-    if budget < 1 {
-        return None;
-    }
-    if budget > MAX_BUDGET {
-        return None;
-    }
-    Some(budget as u32)
+    read_within(word, 1, MAX_BUDGET)
 }
 
 /// The number of retries that a word gives.
 fn read_retries(word: &[u8]) -> Option<u32>
     ensures { result ≡ retries_of word.now }
 {
-    let retries = read_number(word)?;
-    if retries > MAX_RETRIES {
-        return None;
-    }
-    Some(retries as u32)
+    read_within(word, 0, MAX_RETRIES)
 }
 
 /// The number for a slot: none where the slot is full already.

@@ -21,6 +21,8 @@ fn reads_input(command: &Command) -> bool
         Command::Infer => true,
         Command::Build => true,
         Command::Describe(_) => false,
+        Command::Worker { .. } => false,
+        Command::Help => false,
     }
 }
 

@@ -5,7 +5,7 @@ ghost use Rattle.blob_store.specs.Keeping.{kept};
 ghost use Rattle.file_tree.specs.Files.{filed_in};
 ghost use Rattle.object_name.specs.Causes.{TriesAtMost};
 ghost use Rattle.object_name.specs.Name.{max_size};
-ghost use Rattle.gg_cli.specs.Words.{command_of, read_by, reads_input, retries_in, IsCommand};
+ghost use Rattle.gg_cli.specs.Words.{command_here, here, read_by, reads_input, retries_in, IsCommand};
 ghost use Rattle.gg_cli.specs.Answer.{answer_of, answer_of_command};
 ghost use Rattle.gg_cli.specs.Comes.{around, Comes, IsInputFault, Says, SaysUntold, TopCause, file_failures, kept_failures};
 ghost use Rattle.gg_cli.specs.InputText.{Leaves, LeavesInput, TellsText, input_of};
@@ -18,12 +18,13 @@ use crate::describe_command::describe;
 use crate::endings::say;
 use crate::fault::TopFault;
 use crate::force_command::force;
+use crate::help_command::help;
 use crate::infer_command::infer_text;
 use crate::input_text::input_text;
 use crate::model_command::model;
 use crate::status::Status;
 use crate::word_fault::WordFault;
-use crate::words::read_words;
+use crate::words::read_here;
 use blob_store::Keeper;
 use file_tree::Tree;
 use object_name::{Sink, Source};
@@ -39,6 +40,7 @@ fn do_command<K: Keeper, T: Tree, O: Sink>(
     out: &mut O,
 ) -> Result<(), TopFault>
     requires rules { IsCommand command.now }
+    requires done_here { here command.now ≡ Some command.now }
     requires fits { length text.now ≤ max_size }
     ensures ends { K.tells → T.tells → Ends (answer_of_command (Some command.now) text.now (K.store keeper.old) (T.files tree.old))
         (around (kept K.store K.writes) (filed_in T.files T.changes) O.written keeper.old keeper.new tree.old tree.new out.old out.new) result }
@@ -69,6 +71,8 @@ fn do_command<K: Keeper, T: Tree, O: Sink>(
         Command::Infer => infer_text(alloc, keeper, tree, out, text, DEFAULT_RETRIES),
         Command::Build => build_text(alloc, tree, out, text, DEFAULT_RETRIES),
         Command::Describe(item) => describe(alloc, keeper, tree, out, item, DEFAULT_RETRIES),
+        Command::Worker { .. } => unreachable!(),
+        Command::Help => help(out),
     }
 }
 
@@ -81,10 +85,11 @@ fn read_and_do<K: Keeper, T: Tree, I: Source, O: Sink>(
     input: &mut I,
     out: &mut O,
 ) -> Result<(), TopFault>
-    requires { IsCommand command.now }
+    requires rules { IsCommand command.now }
+    requires done_here { here command.now ≡ Some command.now }
     ensures ends { K.tells → T.tells → (text : List ℕ) → TellsText (Some command.now) (I.left input.old) text → TopEnds (answer_of_command (Some command.now) text (K.store keeper.old) (T.files tree.old))
         (around (kept K.store K.writes) (filed_in T.files T.changes) O.written keeper.old keeper.new tree.old tree.new out.old out.new) result }
-    ensures failed { InputEnd (around (kept K.store K.writes) (filed_in T.files T.changes) O.written keeper.old keeper.new tree.old tree.new out.old out.new)
+    ensures failed { InputEnd (Some command.now) (around (kept K.store K.writes) (filed_in T.files T.changes) O.written keeper.old keeper.new tree.old tree.new out.old out.new)
         (I.faults input.old) (I.faults input.new) result }
     ensures cause { TopEndCause (retries_in (Some command.now)) (around K.faults T.faults O.faults keeper.old keeper.new tree.old tree.new out.old out.new) result }
     ensures kept_tries { K.tells → TriesAtMost (retries_in (Some command.now)) K.calls K.faults keeper.old keeper.new (answered kept_faults_of result) }
@@ -106,27 +111,27 @@ fn obey<K: Keeper, T: Tree, I: Source, O: Sink>(
     input: &mut I,
     out: &mut O,
 ) -> Result<(), TopFault>
-    ensures ends { K.tells → T.tells → (text : List ℕ) → TellsText (command_of (map string_bytes words.now)) (I.left input.old) text → TopEnds (answer_of (map string_bytes words.now) text (K.store keeper.old) (T.files tree.old))
+    ensures ends { K.tells → T.tells → (text : List ℕ) → TellsText (command_here (map string_bytes words.now)) (I.left input.old) text → TopEnds (answer_of (map string_bytes words.now) text (K.store keeper.old) (T.files tree.old))
         (around (kept K.store K.writes) (filed_in T.files T.changes) O.written keeper.old keeper.new tree.old tree.new out.old out.new) result }
-    ensures failed { InputEnd (around (kept K.store K.writes) (filed_in T.files T.changes) O.written keeper.old keeper.new tree.old tree.new out.old out.new)
+    ensures failed { InputEnd (command_here (map string_bytes words.now)) (around (kept K.store K.writes) (filed_in T.files T.changes) O.written keeper.old keeper.new tree.old tree.new out.old out.new)
         (I.faults input.old) (I.faults input.new) result }
-    ensures cause { TopEndCause (retries_in (command_of (map string_bytes words.now))) (around K.faults T.faults O.faults keeper.old keeper.new tree.old tree.new out.old out.new) result }
-    ensures kept_tries { K.tells → TriesAtMost (retries_in (command_of (map string_bytes words.now))) K.calls K.faults keeper.old keeper.new (answered kept_faults_of result) }
-    ensures file_tries { T.tells → TriesAtMost (retries_in (command_of (map string_bytes words.now))) T.calls T.faults tree.old tree.new (answered file_faults_of result) }
-    ensures unread { read_by (command_of (map string_bytes words.now)) ≡ false → input_of I.left I.faults I.reads input.new ≡ input_of I.left I.faults I.reads input.old }
-    ensures read { read_by (command_of (map string_bytes words.now)) ≡ true → Leaves (input_of I.left I.faults I.reads input.old) (input_of I.left I.faults I.reads input.new) result }
-    ensures usage { result ≡ Err TopFault.Usage → command_of (map string_bytes words.now) ≡ None }
-    ensures no_command { command_of (map string_bytes words.now) ≡ None → (result ≡ Err TopFault.Usage) ⊎ (result ≡ Err TopFault.Memory) }
+    ensures cause { TopEndCause (retries_in (command_here (map string_bytes words.now))) (around K.faults T.faults O.faults keeper.old keeper.new tree.old tree.new out.old out.new) result }
+    ensures kept_tries { K.tells → TriesAtMost (retries_in (command_here (map string_bytes words.now))) K.calls K.faults keeper.old keeper.new (answered kept_faults_of result) }
+    ensures file_tries { T.tells → TriesAtMost (retries_in (command_here (map string_bytes words.now))) T.calls T.faults tree.old tree.new (answered file_faults_of result) }
+    ensures unread { read_by (command_here (map string_bytes words.now)) ≡ false → input_of I.left I.faults I.reads input.new ≡ input_of I.left I.faults I.reads input.old }
+    ensures read { read_by (command_here (map string_bytes words.now)) ≡ true → Leaves (input_of I.left I.faults I.reads input.old) (input_of I.left I.faults I.reads input.new) result }
+    ensures usage { result ≡ Err TopFault.Usage → command_here (map string_bytes words.now) ≡ None }
+    ensures no_command { command_here (map string_bytes words.now) ≡ None → (result ≡ Err TopFault.Usage) ⊎ (result ≡ Err TopFault.Memory) }
 {
-    match read_words(alloc, words) {
+    match read_here(alloc, words) {
         Ok(command) => read_and_do(alloc, &command, keeper, tree, input, out),
         Err(WordFault::Usage) => Err(TopFault::Usage),
         Err(WordFault::Memory) => Err(TopFault::Memory),
     }
 }
 
-/// Does one command line, without links, and waits for nobody. The text goes to `out`; a fault's one line goes to `err`, after
-/// all else. The input is read by `infer` and `build` alone, before anything is done.
+/// Does one command line, without links, and waits for nobody: words of `worker` are none here. The text goes to `out`; a fault's
+/// one line goes to `err`, after all else. The input is read by `infer` and `build` alone, before anything is done.
 pub fn gg_top<K: Keeper, T: Tree, I: Source, O: Sink, E: Sink>(
     alloc: Global,
     words: &[String],
@@ -138,34 +143,34 @@ pub fn gg_top<K: Keeper, T: Tree, I: Source, O: Sink, E: Sink>(
 ) -> Status
     // Where the keeper, the tree and the input that is read tell, all is as the answer by the definition has it, or a fault stopped it
     // after a prefix. Each write and each change is made once, in order: the lists of those that were answered Ok grow by the answer's.
-    ensures exact { K.tells → T.tells → (text : List ℕ) → TellsText (command_of (map string_bytes words.now)) (I.left input.old) text →
-        IsInputFault (around (kept K.store K.writes) (filed_in T.files T.changes) O.written keeper.old keeper.new tree.old tree.new out.old out.new) result
+    ensures exact { K.tells → T.tells → (text : List ℕ) → TellsText (command_here (map string_bytes words.now)) (I.left input.old) text →
+        IsInputFault (command_here (map string_bytes words.now)) (around (kept K.store K.writes) (filed_in T.files T.changes) O.written keeper.old keeper.new tree.old tree.new out.old out.new) result
         (I.faults input.old) (I.faults input.new) (E.written err.old) (E.written err.new) (E.faults err.old) (E.faults err.new)
         ⊎ Comes (answer_of (map string_bytes words.now) text (K.store keeper.old) (T.files tree.old))
         (around (kept K.store K.writes) (filed_in T.files T.changes) O.written keeper.old keeper.new tree.old tree.new out.old out.new) result }
-    ensures said { K.tells → T.tells → (text : List ℕ) → TellsText (command_of (map string_bytes words.now)) (I.left input.old) text →
-        IsInputFault (around (kept K.store K.writes) (filed_in T.files T.changes) O.written keeper.old keeper.new tree.old tree.new out.old out.new) result
+    ensures said { K.tells → T.tells → (text : List ℕ) → TellsText (command_here (map string_bytes words.now)) (I.left input.old) text →
+        IsInputFault (command_here (map string_bytes words.now)) (around (kept K.store K.writes) (filed_in T.files T.changes) O.written keeper.old keeper.new tree.old tree.new out.old out.new) result
         (I.faults input.old) (I.faults input.new) (E.written err.old) (E.written err.new) (E.faults err.old) (E.faults err.new)
         ⊎ Says (answer_of (map string_bytes words.now) text (K.store keeper.old) (T.files tree.old)) result
         (E.written err.old) (E.written err.new) (E.faults err.old) (E.faults err.new) }
     // The line that a status alone decides is said whatever is told, unless the input failed.
-    ensures line { IsInputFault (around (kept K.store K.writes) (filed_in T.files T.changes) O.written keeper.old keeper.new tree.old tree.new out.old out.new) result
+    ensures line { IsInputFault (command_here (map string_bytes words.now)) (around (kept K.store K.writes) (filed_in T.files T.changes) O.written keeper.old keeper.new tree.old tree.new out.old out.new) result
         (I.faults input.old) (I.faults input.new) (E.written err.old) (E.written err.new) (E.faults err.old) (E.faults err.new)
         ⊎ SaysUntold result (E.written err.old) (E.written err.new) (E.faults err.old) (E.faults err.new) }
     // A fault comes only where a count rose, by more than the retries where calls are tried again, whatever is told: the input's, and
     // then nothing is done and that line is said, or that of which the status is.
-    ensures cause { IsInputFault (around (kept K.store K.writes) (filed_in T.files T.changes) O.written keeper.old keeper.new tree.old tree.new out.old out.new) result
+    ensures cause { IsInputFault (command_here (map string_bytes words.now)) (around (kept K.store K.writes) (filed_in T.files T.changes) O.written keeper.old keeper.new tree.old tree.new out.old out.new) result
         (I.faults input.old) (I.faults input.new) (E.written err.old) (E.written err.new) (E.faults err.old) (E.faults err.new)
-        ⊎ TopCause (retries_in (command_of (map string_bytes words.now))) (around K.faults T.faults O.faults keeper.old keeper.new tree.old tree.new out.old out.new) result }
+        ⊎ TopCause (retries_in (command_here (map string_bytes words.now))) (around K.faults T.faults O.faults keeper.old keeper.new tree.old tree.new out.old out.new) result }
     // Of the calls of the keeper and of the tree no more failed than the retries of the words allow.
-    ensures kept_tries { K.tells → TriesAtMost (retries_in (command_of (map string_bytes words.now))) K.calls K.faults keeper.old keeper.new (kept_failures result) }
-    ensures file_tries { T.tells → TriesAtMost (retries_in (command_of (map string_bytes words.now))) T.calls T.faults tree.old tree.new (file_failures result) }
+    ensures kept_tries { K.tells → TriesAtMost (retries_in (command_here (map string_bytes words.now))) K.calls K.faults keeper.old keeper.new (kept_failures result) }
+    ensures file_tries { T.tells → TriesAtMost (retries_in (command_here (map string_bytes words.now))) T.calls T.faults tree.old tree.new (file_failures result) }
     // Words that are neither `infer` nor `build` leave the input alone; these read it to its end, or to one byte past the limit.
-    ensures unread { read_by (command_of (map string_bytes words.now)) ≡ false → input_of I.left I.faults I.reads input.new ≡ input_of I.left I.faults I.reads input.old }
-    ensures read { read_by (command_of (map string_bytes words.now)) ≡ true → LeavesInput (input_of I.left I.faults I.reads input.old) (input_of I.left I.faults I.reads input.new) result }
-    // Words that are no command line, and no others, are a usage fault, unless memory runs out.
-    ensures usage { result ≡ Status.Usage → command_of (map string_bytes words.now) ≡ None }
-    ensures no_command { command_of (map string_bytes words.now) ≡ None → (result ≡ Status.Usage) ⊎ (result ≡ Status.Memory) }
+    ensures unread { read_by (command_here (map string_bytes words.now)) ≡ false → input_of I.left I.faults I.reads input.new ≡ input_of I.left I.faults I.reads input.old }
+    ensures read { read_by (command_here (map string_bytes words.now)) ≡ true → LeavesInput (input_of I.left I.faults I.reads input.old) (input_of I.left I.faults I.reads input.new) result }
+    // Words that are no command line here, and no others, are a usage fault, unless memory runs out.
+    ensures usage { result ≡ Status.Usage → command_here (map string_bytes words.now) ≡ None }
+    ensures no_command { command_here (map string_bytes words.now) ≡ None → (result ≡ Status.Usage) ⊎ (result ≡ Status.Memory) }
 {
     match obey(alloc, words, keeper, tree, input, out) {
         Ok(()) => Status::Done,

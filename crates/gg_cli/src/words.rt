@@ -1,7 +1,7 @@
 //! Command lines, by their words.
 
 ghost use Rattle.std.specs.Prelude.{◌≡◌, Some, None, map, string_bytes, IfOk, IsErrOf};
-ghost use Rattle.gg_cli.specs.Words.{alone, model_of, describe_of, command_of, IsCommand};
+ghost use Rattle.gg_cli.specs.Words.{alone, model_of, describe_of, command_of, command_here, here, IsCommand};
 ghost use Rattle.gg_cli.specs.Reading.{Finds};
 
 use crate::command::Command;
@@ -9,6 +9,7 @@ use crate::create_words::read_create;
 use crate::force_words::read_force;
 use crate::item_words::read_output;
 use crate::word_fault::WordFault;
+use crate::worker_words::read_worker;
 use object_name::{Bytes, Many};
 use std::alloc::{AllocError, Global};
 
@@ -87,5 +88,37 @@ pub fn read_words(alloc: Global, words: &[String]) -> Result<Command, WordFault>
     if first.as_bytes() == b"describe".as_slice() {
         return read_describe(alloc, others);
     }
+    if first.as_bytes() == b"worker".as_slice() {
+        return read_worker(alloc, others);
+    }
+    if first.as_bytes() == b"help".as_slice() {
+        return read_alone(Command::Help, others);
+    }
     Err(WordFault::Usage)
+}
+
+/// A command, where it is done without links.
+fn here(command: Command) -> Result<Command, WordFault>
+    requires { IsCommand command }
+    ensures exact { Finds result (here command) }
+    ensures rules { IfOk result (λ found. IsCommand found) }
+    ensures done_here { IfOk result (λ found. here found ≡ Some found) }
+{
+    match command {
+        Command::Worker { .. } => Err(WordFault::Usage),
+        other => Ok(other),
+    }
+}
+
+/// The command that some words are for a call without links.
+#[tactic(auto, unfolding(crate::specs::Words::command_here))]
+pub(crate) fn read_here(alloc: Global, words: &[String]) -> Result<Command, WordFault>
+    ensures exact { Finds result (command_here (map string_bytes words.now)) }
+    ensures found { IfOk result (λ command. command_here (map string_bytes words.now) ≡ Some command) }
+    ensures rules { IfOk result (λ command. IsCommand command) }
+    ensures done_here { IfOk result (λ command. here command ≡ Some command) }
+    ensures usage { IsErrOf result WordFault.Usage → command_here (map string_bytes words.now) ≡ None }
+{
+    let command = read_words(alloc, words)?;
+    here(command)
 }

@@ -1,5 +1,6 @@
 use Rattle.std.proofs.Common.{subst, sym}
 use Rattle.blob_store.specs.Keeping.{kept}
+use Rattle.file_tree.specs.Files.{filed_in}
 use Rattle.object_name.specs.Causes.{TriesAtMost}
 use Rattle.object_name.proofs.PublicLaws.{tries-none}
 use Rattle.gg_cli.proofs.InputMakesTheAnswer.{fits_ends}
@@ -21,3 +22,17 @@ returns-in-Build-clause-cause g c = rw c.in-Build.is (c.build_text.ensures.cause
 pub returns-in-Build-clause-kept_tries : goal.returns-in-Build-clause-kept_tries
 returns-in-Build-clause-kept_tries g c kept = rw c.in-Build.is (
     subst (TriesAtMost 2 g.K.Keeper.calls g.K.Keeper.faults c.args.keeper.now c.args.keeper.now) (sym c.build_text.ensures.no_keeper) (tries-none 2 g.K.Keeper.calls g.K.Keeper.faults c.args.keeper.now))
+
+pub returns-in-Help-clause-ends : goal.returns-in-Help-clause-ends
+returns-in-Help-clause-ends g c told files = rw c.in-Help.is (c.help.ensures.ends (kept g.K.Keeper.store g.K.Keeper.writes c.args.keeper.now) (filed_in g.T.Tree.files g.T.Tree.changes c.args.tree.now))
+
+pub returns-in-Help-clause-cause : goal.returns-in-Help-clause-cause
+returns-in-Help-clause-cause g c = rw c.in-Help.is (c.help.ensures.cause 2 (g.K.Keeper.faults c.args.keeper.now) (g.T.Tree.faults c.args.tree.now))
+
+pub returns-in-Help-clause-kept_tries : goal.returns-in-Help-clause-kept_tries
+returns-in-Help-clause-kept_tries g c kept = rw c.in-Help.is (
+    subst (TriesAtMost 2 g.K.Keeper.calls g.K.Keeper.faults c.args.keeper.now c.args.keeper.now) (sym c.help.ensures.no_keeper) (tries-none 2 g.K.Keeper.calls g.K.Keeper.faults c.args.keeper.now))
+
+pub returns-in-Help-clause-file_tries : goal.returns-in-Help-clause-file_tries
+returns-in-Help-clause-file_tries g c files = rw c.in-Help.is (
+    subst (TriesAtMost 2 g.T.Tree.calls g.T.Tree.faults c.args.tree.now c.args.tree.now) (sym c.help.ensures.no_tree) (tries-none 2 g.T.Tree.calls g.T.Tree.faults c.args.tree.now))

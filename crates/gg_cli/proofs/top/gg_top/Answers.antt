@@ -5,16 +5,16 @@ use Rattle.gg_cli.proofs.LinesFitTheStatus.{whole_cause, whole_comes, whole_line
 use Rattle.gg_cli.proofs.top.gg_top.Goals as goal
 
 pub returns-in-Err-clause-exact : goal.returns-in-Err-clause-exact
-returns-in-Err-clause-exact g c kept files text told = whole_comes _ _ _ _ _ _ _ _ _ c.say.ensures c.in-Err.ensures.failed _ (c.in-Err.ensures.ends kept files text told)
+returns-in-Err-clause-exact g c kept files text told = whole_comes _ _ _ _ _ _ _ _ _ _ c.say.ensures c.in-Err.ensures.failed _ (c.in-Err.ensures.ends kept files text told)
 
 pub returns-in-Err-clause-said : goal.returns-in-Err-clause-said
-returns-in-Err-clause-said g c kept files text told = whole_says _ _ _ _ _ _ _ _ _ c.say.ensures c.in-Err.ensures.failed _ (c.in-Err.ensures.ends kept files text told)
+returns-in-Err-clause-said g c kept files text told = whole_says _ _ _ _ _ _ _ _ _ _ c.say.ensures c.in-Err.ensures.failed _ (c.in-Err.ensures.ends kept files text told)
 
 pub returns-in-Err-clause-line : goal.returns-in-Err-clause-line
-returns-in-Err-clause-line g c = whole_line _ _ _ _ _ _ _ _ _ c.say.ensures c.in-Err.ensures.failed
+returns-in-Err-clause-line g c = whole_line _ _ _ _ _ _ _ _ _ _ c.say.ensures c.in-Err.ensures.failed
 
 pub returns-in-Err-clause-cause : goal.returns-in-Err-clause-cause
-returns-in-Err-clause-cause g c = whole_cause _ _ _ _ _ _ _ _ _ c.say.ensures c.in-Err.ensures.failed _ _ c.in-Err.ensures.cause
+returns-in-Err-clause-cause g c = whole_cause _ _ _ _ _ _ _ _ _ _ c.say.ensures c.in-Err.ensures.failed _ _ c.in-Err.ensures.cause
 
 pub returns-in-Err-clause-read : goal.returns-in-Err-clause-read
 returns-in-Err-clause-read g c reads = leaves_said _ _ (Unit {0}) _ _ _ _ _ _ c.say.ensures (c.in-Err.ensures.read reads)
