@@ -1,13 +1,13 @@
 -- The rows of a table that comes of a history have the counts of its leases.
-use Rattle.std.proofs.Common.{◌≡◌, ◌≢◌, ℕ, zero, suc, ◌+◌, ◌-◌, ◌<◌, ◌≤◌, List, [], ◌∷◌, ◌++◌, length, map, Bool, true, false, not, cond, ◌&&◌, Option, Some, None, refl, ap, sym, ◌∙◌, arith, rules, eqb, ltb, ◌⊎◌, inl, inr}
+use Rattle.std.proofs.Common.{◌≡◌, ◌≢◌, ℕ, zero, suc, ◌+◌, ◌≤◌, List, [], ◌∷◌, ◌++◌, length, map, true, false, cond, Option, Some, None, refl, ap, sym, ◌∙◌, arith, eqb, ◌⊎◌, inl, inr}
 use Rattle.std.specs.Prelude.{slice_get}
 use Rattle.std.specs.Option.{option_map}
 use Rattle.std.proofs.lemmas.Bool.Decides.{nat_tests}
 use Rattle.std.proofs.lemmas.Bool.{false≢true, cases_eq}
-use Rattle.std.proofs.lemmas.Option.{none-some, same_Some, slice_get_within}
+use Rattle.std.proofs.lemmas.Option.{none-some, same_Some}
 use Rattle.lease_table.specs.declared.row.Row.{Row}
 use Rattle.lease_table.specs.declared.row.Lease.{Lease}
-use Rattle.lease_table.specs.Table.{Table, alter, fresh, leased, unleased, as_answered, as_lost, lost, answered, choice, is_open, is_open_lease, job_of}
+use Rattle.lease_table.specs.Table.{Table, alter, fresh, leased, unleased, as_answered, as_lost, lost, choice, is_open, is_open_lease, job_of}
 use Rattle.lease_table.proofs.PublicLaws.{length-alter, chosen}
 use Rattle.std.proofs.lemmas.List.{map-append, length_push}
 use Rattle.force_core.specs.declared.event.Event.{Event}

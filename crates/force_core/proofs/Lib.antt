@@ -2,3 +2,8 @@ pub mod Replay
 pub mod Same
 pub mod Counts
 pub mod Untaken
+pub mod Places
+pub mod Indexed
+pub mod Numbers
+pub mod Lookup
+pub mod Replied

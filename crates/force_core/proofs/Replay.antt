@@ -1,20 +1,18 @@
 -- One more event: the replay, the room that is left, and what a book keeps.
-use Rattle.std.proofs.Common.{◌≡◌, ◌≢◌, ℕ, zero, suc, ◌+◌, ◌-◌, ◌*◌, ◌<◌, ◌≤◌, List, [], ◌∷◌, ◌++◌, length, get_or, set, map, Bool, true, false, not, cond, ◌&&◌, Option, Some, None, refl, ap, sym, ◌∙◌, subst, arith, rules, sum_by, eqb, ltb}
-use Rattle.std.specs.Prelude.{slice_get, if◌then◌else◌}
+use Rattle.std.proofs.Common.{◌≡◌, ℕ, zero, suc, ◌+◌, ◌<◌, ◌≤◌, List, [], ◌∷◌, ◌++◌, length, get_or, set, map, Bool, true, false, cond, Option, Some, None, refl, ap, sym, ◌∙◌, arith, sum_by, eqb, ltb}
+use Rattle.std.specs.Prelude.{slice_get}
 use Rattle.std.specs.Option.{option_map, is_some}
-use Rattle.std.proofs.lemmas.List.{length-set, map-set, length-map, map-append, length_push}
+use Rattle.std.proofs.lemmas.List.{map-set, length-map, map-append, length_push}
 use Rattle.std.proofs.lemmas.List.Sums.{sum_by-cons, sum_by_push}
-use Rattle.std.proofs.lemmas.Grind.{common_steps}
 use Rattle.std.proofs.lemmas.Bool.Decides.{nat_tests}
-use Rattle.std.proofs.lemmas.Bool.{false≢true}
-use Rattle.std.proofs.lemmas.Option.{none-some, same_Some, get_or_from_slice_get, slice_get_read, slice_get-get_or, slice_get_within, slice_get-map}
+use Rattle.std.proofs.lemmas.Option.{none-some, same_Some, get_or_from_slice_get, slice_get_within, slice_get-map}
 use Rattle.lease_table.specs.declared.row.Row.{Row}
 use Rattle.lease_table.specs.declared.row.Lease.{Lease}
-use Rattle.lease_table.specs.Table.{Table, alter, alter_at, choice, fresh, leased, unleased, as_answered, as_lost, issued, lost, answered, added, is_open, job_of, is_answered_row}
+use Rattle.lease_table.specs.Table.{alter, alter_at, choice, fresh, leased, unleased, as_answered, as_lost, job_of}
 use Rattle.lease_table.proofs.PublicLaws.{alter-set, IsChosen, chosen, sum-alter, length-alter}
 use Rattle.force_core.specs.declared.event.Event.{Event}
 use Rattle.force_core.specs.declared.event.Event.TheVariants as events
-use Rattle.force_core.specs.History.{State, start, may, after, replay, is_choice, is_wanted, answered_at}
+use Rattle.force_core.specs.History.{State, start, may, after, replay}
 use Rattle.force_core.specs.Book.{Core, Task, IsBook, AllBelow, row_room, room, entered, entered_with, kept, taken, offered, with_tasks}
 use Rattle.thunk_codec.specs.declared.job.Job.{Job}
 use Rattle.thunk_codec.specs.declared.job.Outcome.{Outcome}

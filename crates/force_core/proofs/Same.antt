@@ -1,6 +1,6 @@
 -- A job that is known is that job.
-use Rattle.std.proofs.Common.{◌≡◌, ℕ, ◌<◌, List, length, get_or, Bool, true, false, ◌&&◌, Option, Some, None, refl, sym, ap, arith, rules}
-use Rattle.std.specs.Prelude.{slice_get, bytes_eq, position, IfSome}
+use Rattle.std.proofs.Common.{◌≡◌, ℕ, List, get_or, Bool, true, false, ◌&&◌, Option, Some, None, refl, sym, arith}
+use Rattle.std.specs.Prelude.{bytes_eq, IfSome}
 use Rattle.std.specs.Cmp.Lexicographic.{bytes_decides}
 use Rattle.std.proofs.lemmas.List.Quantifiers.{position-Some}
 use Rattle.std.proofs.lemmas.Option.{slice_get-get_or}

@@ -1,19 +1,18 @@
 -- The book: what was offered, what came of it, and the history.
-use Rattle.std.specs.Prelude.{◌≡◌, ◌≢◌, ℕ, ◌+◌, ◌*◌, ◌-◌, ◌≤◌, ◌<◌, List, [], ◌∷◌, ◌++◌, length, map, min, sum_by, slice_get, nat_lt, nat_le, Bool, true, false, ◌==◌, ◌&&◌, ◌||◌, not, Option, Some, None, if◌then◌else◌, bytes_eq, position}
-use Rattle.std.specs.Option.{option_map, option_and_then, is_some}
-use Rattle.object_name.specs.Name.{ObjectName, name_of, max_size}
+use Rattle.std.specs.Prelude.{◌≡◌, ℕ, ◌+◌, ◌*◌, ◌-◌, ◌≤◌, ◌<◌, List, [], ◌∷◌, ◌++◌, length, map, sum_by, slice_get, nat_lt, Bool, true, false, ◌&&◌, not, Option, Some, None, if◌then◌else◌}
+use Rattle.std.specs.Option.{option_and_then, is_some}
+use Rattle.object_name.specs.Name.{max_size}
 use Rattle.thunk_codec.specs.declared.job.Job.{Job}
 use Rattle.thunk_codec.specs.declared.job.Outcome.{Outcome}
 use Rattle.thunk_codec.specs.Outcome.{Fits}
-use Rattle.thunk_codec.specs.Job.{job_size, max_job}
 use Rattle.job_wire.specs.declared.answer.Answer.{Answer}
 use Rattle.job_wire.specs.Answer.{answer_of}
+use Rattle.job_wire.specs.Frame.{IsJob}
 use Rattle.lease_table.specs.declared.row.Row.{Row}
-use Rattle.lease_table.specs.declared.row.Lease.{Lease}
-use Rattle.lease_table.specs.Table.{Table, alter, choice, job_of, copies_left}
+use Rattle.lease_table.specs.Table.{choice}
 use Rattle.force_core.specs.declared.event.Event.{Event}
 use Rattle.force_core.specs.declared.event.Event.TheVariants as events
-use Rattle.force_core.specs.History.{State, start, may, after, replay}
+use Rattle.force_core.specs.History.{State, start, after, replay}
 
 -- a job that was offered, under its resolved text; its first outcome until it is taken, and that outcome's answer
 pub record Task : Type 0 where
@@ -86,13 +85,13 @@ pub record IsOutcome (tells : Job → Type 0) (outcome : Job → Outcome) (job :
   pub fits : Fits job o
   pub told : tells job → o ≡ outcome job
 
--- what is kept of a job's outcome is the function's, where that is told
+-- the job can be sent, and what is kept of its outcome is the function's, where that is told
 pub record IsTask (tells : Job → Type 0) (outcome : Job → Outcome) (t : Task) : Type 0 where
   pub outcome_is : (o : Outcome) → t.outcome ≡ Some o → IsOutcome tells outcome t.job o
   pub answer_is : (o : Outcome) → t.outcome ≡ Some o → t.answer ≡ Some (answer_of o)
   pub answer_told : (a : Answer) → t.answer ≡ Some a → tells t.job → a ≡ answer_of (outcome t.job)
   pub text_fits : length t.text ≤ max_size
-  pub job_fits : job_size t.job ≤ max_job
+  pub job_is : IsJob t.job
 
 -- each of some numbers is below a number
 abbrev pub AllBelow : ℕ → List ℕ → Type 0

@@ -1,5 +1,5 @@
 -- The rows of a table, counted from all its leases.
-use Rattle.std.specs.Prelude.{◌≡◌, ◌≤◌, ℕ, ◌+◌, List, [], ◌∷◌, length, map, slice_get, Bool, Option, Some, ◌==◌, ◌&&◌, not, if◌then◌else◌}
+use Rattle.std.specs.Prelude.{◌≡◌, ◌≤◌, ℕ, ◌+◌, List, [], ◌∷◌, length, map, slice_get, Bool, Some, ◌==◌, ◌&&◌, not, if◌then◌else◌}
 use Rattle.lease_table.specs.declared.row.Row.{Row}
 use Rattle.lease_table.specs.declared.row.Lease.{Lease}
 use Rattle.lease_table.specs.Table.{Table}

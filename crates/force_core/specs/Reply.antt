@@ -1,5 +1,5 @@
 -- What an outcome is for a job.
-use Rattle.std.specs.Prelude.{◌≡◌, ◌≢◌, ℕ, ◌+◌, ◌-◌, ◌^◌, min, List, slice_get, slice_set, Option, Some, None}
+use Rattle.std.specs.Prelude.{◌≡◌, ◌≢◌, ℕ, ◌+◌, ◌-◌, ◌^◌, min, List, slice_get, slice_set, Some, None}
 use Rattle.thunk_codec.specs.declared.job.Outcome.{Outcome}
 use Rattle.job_wire.specs.declared.answer.Answer.{Answer}
 use Rattle.job_wire.specs.Answer.{answer_of}

@@ -1,6 +1,6 @@
 //! The book that workers and the one who evaluates share.
 
-use crate::entry::Entry;
+use crate::entry::{Entry, name_of_text};
 use crate::event::Event;
 use crate::offer::{Need, Offer};
 use crate::reply::Reply;
@@ -53,14 +53,13 @@ impl<F: Function> Book<F> {
     ghost use Rattle.std.specs.Prelude.{◌≡◌, ◌≤◌, [], ◌∷◌, ◌++◌, true, false, Some, None, IfOk, IfSome, IfNone, OnOk, OnErr, slice_get, map, length};
     ghost use Rattle.std.specs.Arc.{arc_value};
     ghost use Rattle.object_name.specs.Name.{name_of};
-    ghost use Rattle.thunk_codec.specs.Job.{job_size, max_job};
+    ghost use Rattle.job_wire.specs.Frame.{IsJob};
     ghost use Rattle.job_wire.specs.Answer.{answer_of};
     ghost use Rattle.force_core.specs.Reply.{Replies, Agrees};
     ghost use Rattle.std.specs.Option.{option_map};
     ghost use Rattle.force_core.specs.History.{start, replay, may};
     ghost use Rattle.force_core.specs.Book.{IsBook, Core, closing, entered, next_for, outcome_at, answer_at, taken, with_tasks, offered, entered_with, IsOutcome};
     ghost use Rattle.force_core.specs.Known.{known, is_refused, Offers, IsKnown};
-    ghost use Rattle.object_name.specs.Name.{max_size};
     ghost use Rattle.lease_table.specs.Table.{alter, job_of};
     ghost use Rattle.force_core.specs.declared.event.Event.TheVariants as events;
 
@@ -155,7 +154,7 @@ impl<F: Function> Book<F> {
         ensures some { IfOk result (λ found. IfSome found (λ s. self.new ≡ entered self.old (events.Started s.lease s.id worker))) }
         ensures lease { IfOk result (λ found. IfSome found (λ s. s.lease ≡ length self.old.state.table.leases)) }
         ensures job { IfOk result (λ found. IfSome found (λ s. slice_get (map (λ t. t.job) self.old.tasks) s.id ≡ Some (arc_value s.job))) }
-        ensures fits { IfOk result (λ found. IfSome found (λ s. job_size (arc_value s.job) ≤ max_job)) }
+        ensures is_job { IfOk result (λ found. IfSome found (λ s. IsJob (arc_value s.job))) }
         ensures none { IfOk result (λ found. IfNone found (self.new ≡ self.old)) }
         ensures err { OnErr result (self.new ≡ self.old) }
     {
@@ -262,18 +261,18 @@ impl<F: Function> Book<F> {
         ensures exact { result ≡ known prepared.now.text prepared.now.job self.now.tasks }
         ensures same { IfSome result (λ id. IsKnown prepared.now.text prepared.now.job self.now.tasks id) }
     {
-        self.tasks.find(prepared)
+        self.tasks.find(name_of_text(prepared), prepared)
     }
 
     /// Enters a job that is new, with room for what may come of it.
-    fn add(&mut self, alloc: Global, prepared: Prepared) -> Result<u64, AllocError>
-        requires text { length prepared.text ≤ max_size }
-        requires job { job_size prepared.job ≤ max_job }
+    fn add(&mut self, alloc: Global, name: Name, prepared: Prepared) -> Result<u64, AllocError>
+        requires name { name ≡ name_of prepared.text }
+        requires new { known prepared.text prepared.job self.old.tasks ≡ None }
         ensures ok { IfOk result (λ id. self.new ≡ entered_with self.old (events.Offered id) (self.old.tasks ++ offered prepared.text prepared.job ∷ [])) }
         ensures number { IfOk result (λ id. id ≡ length self.old.tasks) }
         ensures err { OnErr result (self.new ≡ self.old) }
     {
-        let entry = Entry::new(alloc, prepared)?;
+        let entry = Entry::new(alloc, name, prepared)?;
         let Some(most) = self.most.checked_add(self.copies as usize + 2) else {
             return Err(AllocError);
         };
@@ -293,18 +292,17 @@ impl<F: Function> Book<F> {
         prepared: Prepared,
         need: Need,
     ) -> Result<Offer, AllocError>
-        requires text { length prepared.text ≤ max_size }
-        requires job { job_size prepared.job ≤ max_job }
         ensures ok { IfOk result (λ offer. Offers self.old self.new prepared need offer) }
         ensures err { OnErr result (self.new ≡ self.old) }
     {
-        if let Some(id) = self.tasks.find(&prepared) {
+        let name = name_of_text(&prepared);
+        if let Some(id) = self.tasks.find(name, &prepared) {
             return Ok(Offer::Known(id));
         }
         if self.tasks.is_refused(&prepared.job, need) {
             return Ok(Offer::Full(prepared));
         }
-        let id = self.add(alloc, prepared)?;
+        let id = self.add(alloc, name, prepared)?;
         Ok(Offer::Offered(id))
     }
 }

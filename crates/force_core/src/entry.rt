@@ -1,5 +1,11 @@
 //! What is kept of a job.
 
+ghost use Rattle.std.specs.Prelude.{◌≡◌, IsTrue};
+ghost use Rattle.std.specs.List.{list_all};
+ghost use Rattle.object_name.specs.Name.{name_of};
+ghost use Rattle.thunk_codec.specs.Path.{is_path};
+ghost use Rattle.job_wire.specs.Frame.{IsJob};
+
 use crate::reply::Reply;
 use job_wire::{Answer, Sealed};
 use need_eval::Prepared;
@@ -7,7 +13,34 @@ use object_name::{Bytes, Name, name_of};
 use std::alloc::{AllocError, Global};
 use std::marker::{Model, PhantomData};
 use std::sync::Arc;
-use thunk_codec::{Function, Job, Outcome};
+use thunk_codec::{Function, Job, Outcome, Path, look_at_paths};
+
+/// The name of the text of a job that is prepared.
+pub(crate) fn name_of_text(prepared: &Prepared) -> Name
+    ensures { result ≡ name_of prepared.now.text }
+{
+    let Ok(name) = name_of(prepared.text.as_slice()) else {
+        unreachable!();
+    };
+    name
+}
+
+/// Looks at the paths of some inputs, whose type says of each that it is normal. It does nothing.
+fn look_at_inputs(inputs: &[(Path, Bytes)])
+    ensures { IsTrue (list_all (λ input. is_path input.0) inputs.now) }
+{
+    'inputs: for input in inputs {
+        let _text = input.0.text();
+    }
+}
+
+/// Looks at a job that is prepared: it has an encoding. It does nothing.
+fn look_at_job(prepared: &Prepared)
+    ensures { IsJob prepared.now.job }
+{
+    look_at_inputs(prepared.job.inputs.as_slice());
+    look_at_paths(prepared.job.outputs.as_slice());
+}
 
 /// A job that was offered, and what came of it. Contracts see a `Task`.
 #[derive(Drop)]
@@ -34,26 +67,24 @@ impl<F: Function> Model for Entry<F> {
 }
 
 impl<F: Function> Entry<F> {
-    ghost use Rattle.std.specs.Prelude.{◌≡◌, ◌≤◌, length, IfSome, IfOk, if◌then◌else◌};
+    ghost use Rattle.std.specs.Prelude.{◌≡◌, ◌≤◌, false, length, IfSome, IfOk, if◌then◌else◌};
     ghost use Rattle.force_core.specs.Known.{is_untaken, is_known, untaken_size};
     ghost use Rattle.object_name.specs.Name.{max_size};
     ghost use Rattle.thunk_codec.specs.Job.{job_size, max_job};
-    ghost use Rattle.std.specs.Option.{option_map};
+    ghost use Rattle.std.specs.Option.{option_map, is_some};
     ghost use Rattle.std.specs.Arc.{arc_value};
     ghost use Rattle.object_name.specs.Name.{name_of};
     ghost use Rattle.job_wire.specs.Answer.{answer_of};
+    ghost use Rattle.job_wire.specs.Frame.{IsJob};
     ghost use Rattle.force_core.specs.Book.{Task, taken, offered, IsOutcome};
     ghost use Rattle.force_core.specs.Reply.{Replied, Agrees};
 
     /// A job that is offered now.
-    pub(crate) fn new(alloc: Global, prepared: Prepared) -> Result<Entry<F>, AllocError>
-        requires text { length prepared.text ≤ max_size }
-        requires job { job_size prepared.job ≤ max_job }
+    pub(crate) fn new(alloc: Global, name: Name, prepared: Prepared) -> Result<Entry<F>, AllocError>
+        requires { name ≡ name_of prepared.text }
         ensures { IfOk result (λ e. e ≡ offered prepared.text prepared.job) }
     {
-        let Ok(name) = name_of(prepared.text.as_slice()) else {
-            unreachable!();
-        };
+        look_at_job(&prepared);
         let job = Arc::new(alloc, prepared.job)?;
         Ok(Entry {
             text: prepared.text,
@@ -116,7 +147,7 @@ impl<F: Function> Entry<F> {
 
     pub(crate) fn job(&self) -> &Arc<Job>
         ensures job { arc_value result.now ≡ self.now.job }
-        ensures fits { job_size self.now.job ≤ max_job }
+        ensures is { IsJob self.now.job }
     {
         &self.job
     }
@@ -135,11 +166,19 @@ impl<F: Function> Entry<F> {
         self.outcome.as_ref()
     }
 
+    /// Whether its outcome is there to be taken.
+    pub(crate) fn has_outcome(&self) -> bool
+        ensures { result ≡ is_some self.now.outcome }
+    {
+        self.outcome.is_some()
+    }
+
     /// Hands the outcome out.
     pub(crate) fn take(&mut self) -> Option<Outcome>
         ensures taken { self.new ≡ taken self.old }
         ensures outcome { result ≡ self.old.outcome }
         ensures is { IfSome result (λ o. IsOutcome F.tells F.outcome self.old.job o) }
+        ensures gone { IfSome result (λ o. is_untaken self.new ≡ false) }
     {
         self.outcome.take()
     }

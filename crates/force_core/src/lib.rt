@@ -4,6 +4,7 @@
 mod book;
 mod entry;
 mod event;
+mod index;
 pub mod laws;
 mod offer;
 mod reply;

@@ -1,4 +1,4 @@
-use Rattle.std.proofs.Common.{◌≡◌, ap, List}
+use Rattle.std.proofs.Common.{ap, List}
 use Rattle.lease_table.specs.declared.row.Row.{Row}
 use Rattle.lease_table.specs.Table.{choice}
 use Rattle.force_core.proofs.Counts.{history-counted, counted-scratch}

@@ -1,5 +1,5 @@
-use Rattle.std.proofs.Common.{rules, ◌≡◌, ◌≤◌, ◌<◌, ◌+◌, arith, refl, sym, ap, ◌∙◌, length}
-use Rattle.force_core.specs.Book.{Core, Task}
+use Rattle.std.proofs.Common.{◌≡◌, arith, sym, ◌∙◌}
+use Rattle.force_core.specs.Book.{Core}
 use Rattle.force_core.proofs.Replay.{same-length, offered-book, offered-room}
 use Rattle.force_core.proofs.book.Book.add.Goals as goal
 

@@ -1,4 +1,3 @@
-use Rattle.std.proofs.Common.{◌≡◌}
 use Rattle.force_core.proofs.Same.{known-found}
 use Rattle.force_core.proofs.book.Book.find.Goals as goal
 

@@ -1,8 +1,6 @@
-use Rattle.std.proofs.Common.{rules, ◌≡◌, ◌≤◌, ◌<◌, ◌+◌, arith, refl, sym, ap, ◌∙◌, length, false, Some, None, set}
-use Rattle.std.specs.Prelude.{slice_get, map}
+use Rattle.std.proofs.Common.{◌≡◌, arith, refl, sym, ap, ◌∙◌, Some, set}
 use Rattle.lease_table.specs.Table.{job_of}
 use Rattle.force_core.specs.Book.{Core, Task}
-use Rattle.force_core.specs.Reply.{Replies}
 use Rattle.force_core.proofs.Replay.{same-length, leased-within, first-book, first-room, set-same, again-book}
 use Rattle.force_core.proofs.book.Book.reply.Goals as goal
 

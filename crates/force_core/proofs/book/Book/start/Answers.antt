@@ -1,10 +1,7 @@
-use Rattle.std.proofs.Common.{rules, ◌≡◌, ◌≤◌, ◌<◌, ◌+◌, arith, refl, sym, ap, ◌∙◌, length, false, Some}
-use Rattle.std.specs.Prelude.{slice_get, map}
-use Rattle.std.specs.Arc.{arc_value}
-use Rattle.std.proofs.lemmas.Option.{slice_get_read, slice_get-map}
+use Rattle.std.proofs.Common.{◌≡◌, arith, sym, ap, ◌∙◌, Some}
 use Rattle.thunk_codec.specs.declared.job.Job.{Job}
 use Rattle.lease_table.specs.Table.{choice}
-use Rattle.force_core.specs.Book.{Core, Task}
+use Rattle.force_core.specs.Book.{Core}
 use Rattle.force_core.proofs.Replay.{same-length, started-chosen, started-book, started-room}
 use Rattle.force_core.proofs.book.Book.start.Goals as goal
 

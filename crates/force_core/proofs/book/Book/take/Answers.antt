@@ -1,4 +1,3 @@
-use Rattle.std.proofs.Common.{◌≡◌, ◌≤◌, ◌+◌, arith}
 use Rattle.force_core.specs.Book.{Core}
 use Rattle.force_core.proofs.Replay.{taken-book}
 use Rattle.force_core.proofs.book.Book.take.Goals as goal
