@@ -1,0 +1,2 @@
+pub mod WordJobs
+pub mod Failures
