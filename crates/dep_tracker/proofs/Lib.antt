@@ -1,0 +1,15 @@
+pub mod Booleans
+pub mod NamesAreCompared
+pub mod EntriesAreFound
+pub mod WalksMeetReach
+pub mod WalksGoOn
+pub mod ChainsHaveValues
+pub mod ThunksAreReady
+pub mod ReachGrows
+pub mod NewThunksAreListed
+pub mod BarringTakesOff
+pub mod CallsAreTracked
+pub mod OutcomesAreTracked
+pub mod OthersStayListed
+pub mod SetsHoldRefs
+pub mod PublicLaws

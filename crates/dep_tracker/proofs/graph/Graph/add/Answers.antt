@@ -1,0 +1,9 @@
+use Rattle.std.proofs.Common.{sym, ◌∙◌}
+use Rattle.dep_tracker.proofs.EntriesAreFound.{entry-last}
+use Rattle.dep_tracker.proofs.graph.Graph.add.Goals as goal
+
+pub returns : goal.returns
+returns c =
+    let new = rw (← c.self.view_is) at c.requires in
+    let last = c.in_ok-insert.ensures.entries ∙ entry-last c.self.inside.added c.args.name c.args.thunk new in
+    rw (← c.self.view_is) (λ i. record { roots = c.self.inside.roots; added = last i; absorbed = c.self.inside.absorbed.entries })
