@@ -1,0 +1,11 @@
+-- Lemmas of force_pool.
+pub mod JobsSettled
+pub mod QuietBooks
+pub mod LeasesSent
+pub mod RepliesEntered
+pub mod WorkersGoOn
+pub mod WorkerSums
+pub mod OpenJobs
+pub mod KeepersRead
+pub mod WalksConclude
+pub mod CallsConclude

@@ -1,0 +1,12 @@
+pub mod Settling
+pub mod Forcing
+pub mod Counting
+pub mod Report
+pub mod Links
+pub mod Entering
+pub mod Quiet
+pub mod Account
+pub mod Hearing
+pub mod Sums
+pub mod Walks
+pub mod Concluding
