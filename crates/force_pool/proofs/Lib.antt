@@ -7,6 +7,5 @@ pub mod WorkersGoOn
 pub mod WorkerSums
 pub mod OpenJobs
 pub mod KeepersRead
-pub mod ReadsAhead
 pub mod WalksConclude
 pub mod CallsConclude

@@ -58,7 +58,7 @@ fn offer_ahead<F: Function, S: Limits, P: Ledger, O: Ledger>(
     let Ok(settled) = desk.settle(alloc, known.take_jobs(alloc)) else {
         return;
     };
-    if known.settled(settled).is_ok() {
+    if known.settled(alloc, settled).is_ok() {
         *ahead = Some(known);
     }
 }
@@ -80,13 +80,13 @@ fn offer_all<F: Function, S: Limits, P: Ledger, O: Ledger>(
     Ok(())
 }
 
-/// Whether there may be answers that what is run ahead hasn't heard of.
+/// Whether first outcomes were entered that the tracker hasn't heard of.
 fn is_behind<F: Function, S: Limits, P: Ledger, O: Ledger>(
     desk: &Desk<F, S, P, O>,
     ahead: &Option<Ahead>,
 ) -> bool {
     match ahead {
-        Some(known) => known.is_behind(desk.firsts()),
+        Some(known) => known.heard() != desk.firsts(),
         None => false,
     }
 }
@@ -145,25 +145,6 @@ fn look<R: Wait, L: Link, S: Limits, P: Ledger, O: Ledger>(
     Ok(None)
 }
 
-/// Comes up to what can be run ahead, and offers it where more can be made at once; says whether that is so. The keeper is only read.
-#[tactic(auto, using(crate::proofs::KeepersRead::read_none))]
-fn offer_more<R: Wait, K: Keeper, L: Link, S: Limits, P: Ledger, O: Ledger>(
-    rt: &R,
-    alloc: Global,
-    keeper: &mut K,
-    hall: &Hall<L, S, P, O>,
-    ahead: &mut Option<Ahead>,
-    prepared: &Prepared,
-) -> Result<bool, Pause>
-    ensures { IsOnlyRead K.tells K.store K.writes K.faults keeper.old keeper.new }
-{
-    if !come_on(rt, alloc, keeper, hall, ahead) {
-        return Ok(false);
-    }
-    offer_all(alloc, &mut hall.desk.lock(rt), prepared, ahead)?;
-    Ok(true)
-}
-
 /// The outcome of a job, when it is there. It is looked for once all jobs that are ready ahead were offered, as far as the book has
 /// room for them.
 #[tactic(auto, using(crate::proofs::KeepersRead::read_none, crate::proofs::KeepersRead::read_both))]
@@ -182,7 +163,8 @@ fn awaited<R: Wait, K: Keeper, L: Link, S: Limits, P: Ledger, O: Ledger>(
 {
     let mut has_stepped = true;
     'rounds: for _ in rt.forever() {
-        if offer_more(rt, alloc, keeper, hall, ahead, prepared)? {
+        if come_on(rt, alloc, keeper, hall, ahead) {
+            offer_all(alloc, &mut hall.desk.lock(rt), prepared, ahead)?;
             continue;
         }
         let is_here = is_some_here(slots.as_slice());
@@ -216,34 +198,6 @@ fn awaited_by<R: Wait, K: Keeper, L: Link, S: Limits, P: Ledger, O: Ledger>(
     }
 }
 
-/// The values of references, by need, with outcomes that workers find, and with what can be run ahead.
-fn walk_with<R: Wait, K: Keeper, L: Link, S: Limits, P: Ledger, O: Ledger>(
-    rt: &R,
-    alloc: Global,
-    keeper: &mut K,
-    refs: Many<Ref>,
-    budget: u32,
-    retries: u32,
-    hall: &Hall<L, S, P, O>,
-    slots: &mut Vec<Slot<L, S, P, O>>,
-    ahead: &mut Option<Ahead>,
-) -> Result<Values, Halt>
-    requires { AllByRecursion IsRef refs }
-    ensures evaluates { IsEvaluation K.tells K.store K.writes K.faults L.tells L.outcome budget retries refs keeper.old keeper.new (as_walked result) }
-    ensures slots { slots.new.items ≡ slots.old.items }
-{
-    let mut walker = Walker::new(alloc, refs, budget, retries)?;
-    'walk: loop {
-        match walker.advance(alloc, keeper)? {
-            Walked::Ended(values) => return Ok(values),
-            Walked::Blocked => {}
-        }
-        let outcome = awaited_by(rt, alloc, keeper, hall, slots, ahead, &walker)?;
-        walker.supply(alloc, keeper, outcome)?;
-        step_here(rt, alloc, hall, slots);
-    }
-}
-
 /// The values of references, by need, with outcomes that workers find.
 pub(crate) fn walk<R: Wait, K: Keeper, L: Link, S: Limits, P: Ledger, O: Ledger>(
     rt: &R,
@@ -260,7 +214,14 @@ pub(crate) fn walk<R: Wait, K: Keeper, L: Link, S: Limits, P: Ledger, O: Ledger>
     ensures slots { slots.new.items ≡ slots.old.items }
 {
     let mut ahead = Ahead::new(alloc, &refs, retries).ok();
-    walk_with(
-        rt, alloc, keeper, refs, budget, retries, hall, slots, &mut ahead,
-    )
+    let mut walker = Walker::new(alloc, refs, budget, retries)?;
+    'walk: loop {
+        match walker.advance(alloc, keeper)? {
+            Walked::Ended(values) => return Ok(values),
+            Walked::Blocked => {}
+        }
+        let outcome = awaited_by(rt, alloc, keeper, hall, slots, &mut ahead, &walker)?;
+        walker.supply(alloc, keeper, outcome)?;
+        step_here(rt, alloc, hall, slots);
+    }
 }
