@@ -1,6 +1,6 @@
 //! Sets of references, in the order in which they were put in.
 
-ghost use Rattle.std.specs.Prelude.{◌≡◌, ◌≤◌, ◌++◌, ◌∷◌, [], false, drop, length, map, OnOk};
+ghost use Rattle.std.specs.Prelude.{◌≡◌, ◌++◌, ◌∷◌, [], false, map, OnOk};
 ghost use Rattle.dep_tracker.specs.Walk.{has};
 ghost use Rattle.dep_tracker.specs.Known.{same_ref};
 ghost use Rattle.dep_tracker.specs.RefSet.{node_of, ref_of};
@@ -65,26 +65,10 @@ impl RefSet {
         Ok(())
     }
 
-    /// How many references there are.
-    pub(crate) fn len(&self) -> usize
-        ensures { result ≡ length self.now }
-    {
-        self.0.len()
-    }
-
     /// The same references, in order.
     pub(crate) fn nodes(&self) -> &[Node]
         ensures { map ref_of result.now ≡ self.now }
     {
         self.0.as_slice()
-    }
-
-    /// The references from a place on, in order.
-    pub(crate) fn nodes_from(&self, place: usize) -> &[Node]
-        requires { place ≤ length self.now }
-        ensures { map ref_of result.now ≡ drop place self.now }
-    {
-        let (_, rest) = self.nodes().split_at(place);
-        rest
     }
 }

@@ -5,4 +5,4 @@ use Rattle.dep_tracker.proofs.listing.list_new.Given as goal
 
 abbrev pub invariant-nodes : goal.invariant-nodes
 invariant-nodes l =
-    with_all_new l.graph l.barred.keys l.listed.keys (map ref_of (drop l.node-index l.nodes)) ≡ with_all_new l.graph l.barred.keys l.fn.listed.keys (map ref_of l.nodes)
+    with_all_new l.graph l.barred.keys l.listed.keys (map ref_of (drop l.node-index l.nodes)) ≡ with_all_new l.graph l.barred.keys l.fn.listed.keys l.reach
