@@ -1,6 +1,7 @@
 //! The program gg: makes the store, the tree, the outputs and the words real, and hands them to the call that does the work.
 #![tactic(auto)]
 
+mod links;
 mod worker;
 
 use blob_store::FolderKeeper;
@@ -10,6 +11,8 @@ use object_name::{ReadSource, Sink, WriteSink, write_all};
 use std::alloc::AllocError;
 use std::io::ErrorKind;
 use std::process::ExitCode;
+use std::sync::Wait;
+use std::thread::Threads;
 use std::{env, io, process};
 
 /// The current folder, whose files are the tree.
@@ -50,11 +53,16 @@ fn do_here<E: Sink>(rt: &HostRuntime, words: &[String], err: &mut E) -> Result<S
     ))
 }
 
-/// Does the command line of the process.
-fn run<E: Sink>(rt: &HostRuntime, err: &mut E) -> Result<Status, AllocError> {
+/// Does the command line of the process, with threads of this handle.
+fn run<R: Threads + Wait + Sync, E: Sink>(
+    rt: &HostRuntime,
+    threads: &R,
+    err: &mut E,
+) -> Result<Status, AllocError> {
     let words = words(rt)?;
     let words = words.as_slice();
     match read_words(rt.alloc(), words) {
+        Ok(Command::ForceWith { links, .. }) => links::force(rt, threads, words, &links, err),
         Ok(Command::Worker { address, times }) => worker::serve(rt, address.as_slice(), times, err),
         Err(WordFault::Memory) => Err(AllocError),
         _ => do_here(rt, words, err),
@@ -64,7 +72,7 @@ fn run<E: Sink>(rt: &HostRuntime, err: &mut E) -> Result<Status, AllocError> {
 fn main(rt: HostRuntime) -> ExitCode {
     let stderr = rt.stderr();
     let mut err = WriteSink::new(io::writer(&stderr));
-    let status = match run(&rt, &mut err) {
+    let status = match run(&rt, &rt, &mut err) {
         Ok(status) => status,
         Err(AllocError) => {
             // The status says so even where standard error can't be written.

@@ -10,7 +10,7 @@ use Rattle.file_tree.proofs.PublicLaws.{all_changed-none}
 use Rattle.file_tree.specs.Files.{Filed, Files}
 use Rattle.object_name.specs.Name.{max_size}
 use Rattle.gg_cli.specs.declared.command.Command.{Command}
-use Rattle.gg_cli.specs.declared.command.Command.TheVariants.{Force, CreateThunk, Model, Infer, Build, Describe, Worker, Help}
+use Rattle.gg_cli.specs.declared.command.Command.TheVariants.{Force, ForceWith, CreateThunk, Model, Infer, Build, Describe, Demo, Worker, Help}
 use Rattle.need_eval.specs.declared.fault.Refusal.TheVariants as refusals
 use Rattle.gg_cli.specs.declared.fault.TopFault.{TopFault}
 use Rattle.gg_cli.specs.declared.fault.TopFault.TheVariants as tops
@@ -36,22 +36,26 @@ module _ (store : Store) (files : Files) where
   -- a command that reads none answers the same to each text
   unread-answer : (command : Command) → reads_input command ≡ false → (x y : List ℕ) → answer_of_command (Some command) x store files ≡ answer_of_command (Some command) y store files
   unread-answer (Force budget retries items) is x y = refl
+  unread-answer (ForceWith links setup report items) is x y = refl
   unread-answer (CreateThunk recipe) is x y = refl
   unread-answer (Model words) is x y = refl
   unread-answer Infer is x y = absurd (cc is)
   unread-answer Build is x y = absurd (cc is)
   unread-answer (Describe item) is x y = refl
+  unread-answer (Demo count) is x y = refl
   unread-answer (Worker address times) is x y = refl
   unread-answer Help is x y = refl
 
   -- one that reads it answers so where it is too long
   over-answer : (command : Command) → reads_input command ≡ true → (text : List ℕ) → max_size < length text → answer_of_command (Some command) text store files ≡ ended_by [] [] tops.InputTooLong
   over-answer (Force budget retries items) is text over = absurd (cc is)
+  over-answer (ForceWith links setup report items) is text over = absurd (cc is)
   over-answer (CreateThunk recipe) is text over = absurd (cc is)
   over-answer (Model words) is text over = absurd (cc is)
   over-answer Infer is text over = within-over text _ over
   over-answer Build is text over = within-over text _ over
   over-answer (Describe item) is text over = absurd (cc is)
+  over-answer (Demo count) is text over = absurd (cc is)
   over-answer (Worker address times) is text over = absurd (cc is)
   over-answer Help is text over = absurd (cc is)
 

@@ -19,5 +19,11 @@ pub mod PartsJoin
 pub mod ScriptsMakeTheAnswer
 pub mod BuildsMakeTheAnswer
 pub mod LinesCauseTheEnd
+pub mod DemoFilesGrow
+pub mod DemoMakesTheAnswer
 pub mod CommandsAgree
 pub mod AddressesAreCut
+pub mod LinkedWordsAreRead
+pub mod LinksMakeTheAnswer
+pub mod LinksFitTheStatus
+pub mod LinksComeBack

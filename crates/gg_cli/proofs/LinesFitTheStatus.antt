@@ -62,7 +62,7 @@ fault_says a (tops.Refused refusal) b c f g prefix whole = whole
 fault_says a fault b c f g prefix whole = whole
 
 -- the line that a status alone decides, unless the input failed
-untold_line : (fault : TopFault) (b c : Option (List ℕ)) (f g : ℕ) → SaysWhole (line_of fault) b c f g → (fault ≡ tops.InputFailed) ⊎ SaysUntold (ending_of fault).status b c f g
+pub untold_line : (fault : TopFault) (b c : Option (List ℕ)) (f g : ℕ) → SaysWhole (line_of fault) b c f g → (fault ≡ tops.InputFailed) ⊎ SaysUntold (ending_of fault).status b c f g
 untold_line tops.Usage b c f g said = inr said
 untold_line tops.StoreFailed b c f g said = inr said
 untold_line tops.FileFailed b c f g said = inr said

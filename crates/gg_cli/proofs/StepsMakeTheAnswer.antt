@@ -8,6 +8,7 @@ use Rattle.object_name.specs.declared.trouble.Trouble.{Trouble}
 use Rattle.object_name.specs.declared.trouble.Trouble.TheVariants as troubles
 use Rattle.thunk_codec.specs.declared.reference.Ref.{Ref}
 use Rattle.thunk_codec.specs.declared.job.Job.{Job}
+use Rattle.thunk_codec.specs.declared.job.Outcome.{Outcome}
 use Rattle.blob_store.specs.Store.{Store, Write, written}
 use Rattle.blob_store.specs.Keeping.{Kept, all_written}
 use Rattle.file_tree.specs.Files.{Filed, all_changed, ChangesPrefix}
@@ -37,11 +38,11 @@ use Rattle.gg_cli.specs.declared.fault.FilingFault.TheVariants as filings
 use Rattle.gg_cli.specs.Endings.{ending_of}
 use Rattle.gg_cli.specs.ValueLines.{value_lines}
 use Rattle.gg_cli.specs.ValueFiles.{filed}
-use Rattle.gg_cli.specs.Answer.{all_done, done, ended_by, forced, wanted_forced}
+use Rattle.gg_cli.specs.Answer.{all_done, done, ended_by, forced, forced_with, wanted_forced, wanted_forced_with}
 use Rattle.gg_cli.specs.Parts.{Part, one_part}
 use Rattle.gg_cli.specs.LowerFaults.{IsFaultOf, want_fault, filing_fault, output_fault}
-use Rattle.gg_cli.specs.Comes.{Made, Counts, MadePrefix, MadeAll, TopCause}
-use Rattle.gg_cli.specs.StepContracts.{EndsAt, Ends, HasValues, HandsOut, FilesValues, FilingCause, only_store}
+use Rattle.gg_cli.specs.Comes.{Made, Counts, IsCallFault, MadePrefix, MadeAll, TopCause}
+use Rattle.gg_cli.specs.StepContracts.{EndsAt, Ends, HasValues, HandsOut, HandsOutWith, FilesValues, FilingCause, only_store}
 use Rattle.gg_cli.specs.Writing.{Writes}
 use Rattle.blob_store.proofs.PublicLaws.{all_written-none}
 use Rattle.file_tree.proofs.PublicLaws.{all_changed-none}
@@ -50,7 +51,7 @@ use Rattle.gg_cli.proofs.OnePart.{nothing-made, one-made, part-made}
 -- ---- evaluation
 
 -- every job is told
-all_told : (jobs : List Job) → AllByRecursion (λ job. Unit {0}) jobs
+pub all_told : (jobs : List Job) → AllByRecursion (λ job. Unit {0}) jobs
 all_told [] = tt
 all_told (job ∷ jobs) = (tt, all_told jobs)
 
@@ -65,22 +66,22 @@ abbrev forced_changes : List Item → Ended (List ObjectName) → List Change
 forced_changes items (Got names s) = filed s.store.objects names items
 forced_changes items (Stopped why s) = []
 
-forced_parts : (items : List Item) (e : Ended (List ObjectName)) → (forced items e).parts ≡ one_part (state_after e).writes (forced_changes items e)
-forced_parts items (Got names s) = refl
-forced_parts items (Stopped why s) = refl
+forced_parts : (text : List ObjectName → List Item → List ℕ) (items : List Item) (e : Ended (List ObjectName)) → (forced_with text items e).parts ≡ one_part (state_after e).writes (forced_changes items e)
+forced_parts text items (Got names s) = refl
+forced_parts text items (Stopped why s) = refl
 
 module _ (e : Ended (List ObjectName)) (before after : Kept) (law : (state_after e).store ≡ written before.store (state_after e).writes) where
   -- the evaluation gave names
-  has_values : (names : List ObjectName) (steps : ℕ) → ((last : State) → e ≡ Got names last → AreHeld last.store names) → Yields names steps e after.store → ListsAll before.writes e after → HasValues e names before after
+  pub has_values : (names : List ObjectName) (steps : ℕ) → ((last : State) → e ≡ Got names last → AreHeld last.store names) → Yields names steps e after.store → ListsAll before.writes e after → HasValues e names before after
   has_values names steps held gives list =
       let kept = rw gives.got at law in
       let writes = rw gives.got at list in
       record { last = gives.last; got = gives.got; store = gives.store; writes = λ i. record { store = (gives.store ∙ kept) i; writes = writes i }; held = subst (λ (s : Store). AreHeld s names) (sym gives.store) (held gives.last gives.got) }
 
-  module _ (items : List Item) (files : Filed) (told : Option (List ℕ)) where
+  module _ (text : List ObjectName → List Item → List ℕ) (items : List Item) (files : Filed) (told : Option (List ℕ)) where
     -- a prefix of its writes is a prefix of the answer's
-    made_prefix : StopsPartWay before.writes (start before.store) e after → MadePrefix (forced items e) (only_store before after files told)
-    made_prefix h = part-made (forced items e) (only_store before after files told) (record { writes = (state_after e).writes; changes = forced_changes items e }) (forced_parts items e) (inl (record {
+    made_prefix : StopsPartWay before.writes (start before.store) e after → MadePrefix (forced_with text items e) (only_store before after files told)
+    made_prefix h = part-made (forced_with text items e) (only_store before after files told) (record { writes = (state_after e).writes; changes = forced_changes items e }) (forced_parts text items e) (inl (record {
       kept = record {
         prefix = h.part.prefix;
         is_prefix = record { rest = h.part.others; whole = h.part.list };
@@ -91,23 +92,27 @@ module _ (e : Ended (List ObjectName)) (before after : Kept) (law : (state_after
     }))
 
     -- the evaluation stopped, and all of its writes are made
-    stopped_all : (why : Stop) → StopsWith why e after.store → ListsAll before.writes e after → MadeAll (forced items e) (only_store before after files told)
+    stopped_all : (why : Stop) → StopsWith why e after.store → ListsAll before.writes e after → MadeAll (forced_with text items e) (only_store before after files told)
     stopped_all why h list =
         let kept = rw h.stopped at law in
         let writes = rw h.stopped at list in
-        rw h.stopped (one-made (forced items (Stopped why h.last)) (only_store before after files told) h.last.writes [] refl (λ i. record { store = (h.store ∙ kept) i; writes = writes i }) (all_changed-none files))
+        rw h.stopped (one-made (forced_with text items (Stopped why h.last)) (only_store before after files told) h.last.writes [] refl (λ i. record { store = (h.store ∙ kept) i; writes = writes i }) (all_changed-none files))
+
+    -- it stopped part way
+    pub part_way : StopsPartWay before.writes (start before.store) e after → IsCallFault (forced_with text items e) (only_store before after files told)
+    part_way h = record { prefix = made_prefix h; no_text = Appends-nil told }
 
     -- the evaluation ended at a fault
-    ends_at : (fault : EvalFault) (top : TopFault) → Stops before.writes (start before.store) e after fault → IsFaultOf fault top → EndsAt (forced items e) (only_store before after files told) top
+    pub ends_at : (fault : EvalFault) (top : TopFault) → Stops before.writes (start before.store) e after fault → IsFaultOf fault top → EndsAt (forced_with text items e) (only_store before after files told) top
     ends_at (faults.Refused refusal) top h is =
         let all = rw h.0.stopped at (stopped_all (Refused refusal) h.0 h.1) in
         rw (is, h.0.stopped) (refused_ends _ [] _ refusal all (Appends-nil told))
     ends_at (faults.Clash name found fresh) top h is =
         let all = rw h.0.stopped at (stopped_all (Clash name found fresh) h.0 h.1) in
         rw (is, h.0.stopped) (record { comes = record { is_status = refl; all = all; text = Appends-nil told }; line = refl })
-    ends_at faults.StoreFailed top h is = rw is (record { comes = record { prefix = made_prefix h; no_text = Appends-nil told }; line = refl })
+    ends_at faults.StoreFailed top h is = rw is (record { comes = part_way h; line = refl })
     ends_at faults.RunFailed top h is = absurd is
-    ends_at faults.Memory top h is = rw is (record { comes = inl (record { prefix = made_prefix h; no_text = Appends-nil told }); line = refl })
+    ends_at faults.Memory top h is = rw is (record { comes = inl (part_way h); line = refl })
 
 module _ (budget : ℕ) (refs : List Ref) (before after : Kept) where
   -- `evaluate` gave values
@@ -120,7 +125,7 @@ module _ (budget : ℕ) (refs : List Ref) (before after : Kept) where
   -- `evaluate` ended at a fault
   pub fault_found : (fault : EvalFault) (top : TopFault) → EvaluatesAll (λ job. Unit {0}) card_outcome budget refs before after (Err fault) → IsFaultOf fault top
       → (items : List Item) (files : Filed) (told : Option (List ℕ)) → EndsAt (forced items (values_of (by_function card_outcome) budget refs (start before.store))) (only_store before after files told) top
-  fault_found fault top does is items files told = ends_at _ before after (store_is_written (by_function card_outcome) budget refs before.store) items files told fault top (does (all_told _)) is
+  fault_found fault top does is items files told = ends_at _ before after (store_is_written (by_function card_outcome) budget refs before.store) value_lines items files told fault top (does (all_told _)) is
 
 -- ---- the files and the text
 
@@ -177,32 +182,37 @@ module _ (writes : List Write) (text : List ℕ) (before after : Kept) (made : a
 
 -- ---- the items
 
-module _ (budget : ℕ) (items : List Item) (kept : Kept) (files files_after : Filed) (same : files_after ≡ files) (told : Option (List ℕ)) (found : Result (List Ref) FileRefusal) where
+module _ (outcomes : ℕ → Job → Option Outcome) (text : List ObjectName → List Item → List ℕ) (budget : ℕ) (items : List Item) (kept : Kept) (files files_after : Filed) (same : files_after ≡ files)
+    (told : Option (List ℕ)) (found : Result (List Ref) FileRefusal) where
   -- nothing was done yet
-  untouched : MadePrefix (wanted_forced budget items kept.store found) (handed kept kept files files_after told told)
-  untouched = nothing-made (wanted_forced budget items kept.store found) (handed kept kept files files_after told told) refl same
+  untouched : MadePrefix (wanted_forced_with outcomes text budget items kept.store found) (handed kept kept files files_after told told)
+  untouched = nothing-made (wanted_forced_with outcomes text budget items kept.store found) (handed kept kept files files_after told told) refl same
 
   -- an item was refused, or the tree failed
-  pub want_ends : (fault : WantFault) → Answers {T = List Ref} found (Err fault) → EndsAt (wanted_forced budget items kept.store found) (handed kept kept files files_after told told) (want_fault fault)
+  pub want_ends : (fault : WantFault) → Answers {T = List Ref} found (Err fault) → EndsAt (wanted_forced_with outcomes text budget items kept.store found) (handed kept kept files files_after told told) (want_fault fault)
   want_ends (wants.Refused refusal) h = rw h (record { comes = record { is_status = refl; all = record { kept = all_written-none kept; files = same ∙ all_changed-none files }; text = Appends-nil told }; line = refl })
   want_ends wants.Failed h = record { comes = record { prefix = untouched; no_text = Appends-nil told }; line = refl }
   want_ends wants.Memory h = record { comes = inl (record { prefix = untouched; no_text = Appends-nil told }); line = refl }
+
+-- the values of an evaluation were handed out
+module _ {T : Type 0} (e : Ended (List ObjectName)) (text : List ObjectName → List Item → List ℕ) (items : List Item) (names : List ObjectName) (before now after : Kept) (files files_last : Filed) (b c : Option (List ℕ)) (r : Result T TopFault) where
+  pub values_handed : HasValues e names before now → HandsOutWith (text names items) names items now after files files_last b c r → Ends (forced_with text items e) (handed before after files files_last b c) r
+  values_handed h out = rw h.got (subst (λ (s : Store). Ends (done h.last.writes (filed s.objects names items) (text names items)) (handed before after files files_last b c) r) h.store (out before h.last.writes h.writes))
 
 module _ (budget : ℕ) (items : List Item) (before now : Kept) (files files_after : Filed) (same : files_after ≡ files) (refs : List Ref) (found : Result (List Ref) FileRefusal) (is : found ≡ Ok refs) where
   -- the evaluation ended at a fault
   pub values_end : (told : Option (List ℕ)) (fault : TopFault)
       → ((items : List Item) (files : Filed) (told : Option (List ℕ)) → EndsAt (forced items (values_of (by_function card_outcome) budget refs (start before.store))) (only_store before now files told) fault)
       → EndsAt (wanted_forced budget items before.store found) (handed before now files files_after told told) fault
-  values_end told fault h = rw is (subst (λ (f : Filed). EndsAt (forced items (values_of (by_function card_outcome) budget refs (start before.store))) (handed before now files f told told) fault) (sym same) (h items files told))
+  values_end told fault h = rw is (subst (λ (f : Filed). EndsAt (forced items (values_of (by_function card_outcome) budget refs (start before.store))) (handed before now f files_after told told) fault) same (h items files_after told))
 
   -- the values were handed out
   pub hands_end : {T : Type 0} (names : List ObjectName) (after : Kept) (files_last : Filed) (b c : Option (List ℕ)) (r : Result T TopFault)
       → HasValues (values_of (by_function card_outcome) budget refs (start before.store)) names before now → HandsOut names items now after files_after files_last b c r
       → Ends (wanted_forced budget items before.store found) (handed before after files files_last b c) r
   hands_end names after files_last b c r h out =
-      let here = subst (λ (f : Filed). Ends (done h.last.writes (filed now.store.objects names items) (value_lines names items)) (handed before after f files_last b c) r) same (out before h.last.writes h.writes) in
-      let there = subst (λ (s : Store). Ends (done h.last.writes (filed s.objects names items) (value_lines names items)) (handed before after files files_last b c) r) h.store here in
-      rw (is, h.got) there
+      rw is (subst (λ (f : Filed). Ends (forced items (values_of (by_function card_outcome) budget refs (start before.store))) (handed before after f files_last b c) r) same
+      (values_handed (values_of (by_function card_outcome) budget refs (start before.store)) value_lines items names before now after files_after files_last b c r h out))
 
 -- ---- causes
 

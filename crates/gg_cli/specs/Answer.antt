@@ -4,6 +4,8 @@ use Rattle.std.specs.Prelude.{ℕ, List, [], ◌∷◌, ◌++◌, length, nat_le
 use Rattle.object_name.specs.Name.{ObjectName, max_size, spelling}
 use Rattle.thunk_codec.specs.declared.reference.Ref.{Ref}
 use Rattle.thunk_codec.specs.Job.{ref_name}
+use Rattle.thunk_codec.specs.declared.job.Job.{Job}
+use Rattle.thunk_codec.specs.declared.job.Outcome.{Outcome}
 use Rattle.thunk_codec.specs.Reading.{thunk_of}
 use Rattle.thunk_codec.specs.Thunk.{Parts}
 use Rattle.blob_store.specs.Store.{Store, Write, held}
@@ -16,7 +18,7 @@ use Rattle.file_tree.specs.declared.model_fault.PlanFault.TheVariants as plans
 use Rattle.file_tree.specs.declared.refusal.FileRefusal.{FileRefusal}
 use Rattle.need_eval.specs.declared.fault.Refusal.TheVariants.{Missing, BadThunk}
 use Rattle.need_eval.specs.Eval.{Stop, Refused, Clash, Stands, Ended, Got, Stopped, start}
-use Rattle.need_eval.specs.Evaluation.{values_of, by_function}
+use Rattle.need_eval.specs.Evaluation.{value_of, values_of, by_function}
 use Rattle.build_plan.specs.declared.recipe.Recipe.{Recipe}
 use Rattle.build_plan.specs.Doing as doing
 use Rattle.build_plan.specs.Symbolic.{Work, applied, begun, symbolic}
@@ -34,8 +36,10 @@ use Rattle.gg_cli.specs.declared.fault.TopFault.TheVariants as faults
 use Rattle.gg_cli.specs.declared.status.Status.{Status}
 use Rattle.gg_cli.specs.declared.status.Status.TheVariants.{Done}
 use Rattle.gg_cli.specs.declared.command.Command.{Command}
-use Rattle.gg_cli.specs.declared.command.Command.TheVariants.{Force, CreateThunk, Model, Infer, Build, Describe, Worker, Help}
+use Rattle.gg_cli.specs.declared.command.Command.TheVariants.{Force, ForceWith, CreateThunk, Model, Infer, Build, Describe, Demo, Worker, Help}
 use Rattle.gg_cli.specs.Words.{command_here}
+use Rattle.gg_cli.specs.ForceWords.{default_budget}
+use Rattle.gg_cli.specs.Demo.{demo_files, demo_script, empty_store, program}
 use Rattle.gg_cli.specs.Description.{description}
 use Rattle.gg_cli.specs.HelpText.{help_text}
 use Rattle.sandbox_run.specs.Cards.{card_outcome}
@@ -73,16 +77,24 @@ stop_fault (Refused refusal) = faults.Refused refusal
 stop_fault (Clash name found fresh) = faults.Clash name
 stop_fault (Stands text job) = faults.Memory
 
--- the answer by the end of the evaluation: only where it gives all values they go to the files that wanted them, and then they
--- are printed
-abbrev pub forced : List Item → Ended (List ObjectName) → Answer
-forced items (Got names s) = done s.writes (filed s.store.objects names items) (value_lines names items)
-forced items (Stopped why s) = ended_by s.writes [] (stop_fault why)
+-- the answer by the end of the evaluation: only where it gives all values they go to the files that wanted them, and then a text of
+-- them is printed
+abbrev pub forced_with : (List ObjectName → List Item → List ℕ) → List Item → Ended (List ObjectName) → Answer
+forced_with text items (Got names s) = done s.writes (filed s.store.objects names items) (text names items)
+forced_with text items (Stopped why s) = ended_by s.writes [] (stop_fault why)
 
--- the answer by the references of the items: they are evaluated, unless an item is refused
+-- the answer by the references of the items: they are evaluated with these outcomes of jobs, unless an item is refused
+abbrev pub wanted_forced_with : (ℕ → Job → Option Outcome) → (List ObjectName → List Item → List ℕ) → ℕ → List Item → Store → Result (List Ref) FileRefusal → Answer
+wanted_forced_with outcomes text budget items store (Err refusal) = ended_by [] [] (faults.FileRefused refusal)
+wanted_forced_with outcomes text budget items store (Ok refs) = forced_with text items (values_of outcomes budget refs (start store))
+
+-- the answer by the end of the evaluation, where the values are printed
+abbrev pub forced : List Item → Ended (List ObjectName) → Answer
+forced items e = forced_with value_lines items e
+
+-- the same by the references of the items, where jobs are those of cards
 abbrev pub wanted_forced : ℕ → List Item → Store → Result (List Ref) FileRefusal → Answer
-wanted_forced budget items store (Err refusal) = ended_by [] [] (faults.FileRefused refusal)
-wanted_forced budget items store (Ok refs) = forced items (values_of (by_function card_outcome) budget refs (start store))
+wanted_forced budget items store found = wanted_forced_with (by_function card_outcome) value_lines budget items store found
 
 -- the fault of work that stopped, of a command whose own word is this; no tool is run here, so none fails
 abbrev pub why_fault : List ℕ → doing.Why → TopFault
@@ -184,15 +196,41 @@ ref_described store (Ok ref) = bytes_described (ref_name ref) (held store.object
 abbrev pub described : Item → Store → Files → Answer
 described item store files = ref_described store (ref_of_item files item)
 
+-- what `demo` prints
+abbrev pub demo_text : ℕ → ℕ → ObjectName → List ℕ
+demo_text thunks steps name = count_line (codes "thunks ") thunks ++ (count_line (codes "steps ") steps ++ (codes "prog " ++ name_line name))
+
+-- the answer by the end of the evaluation, after so many thunks were made: of its store nothing is kept
+abbrev pub program_forced : ℕ → Ended ObjectName → Answer
+program_forced thunks (Got name s) = done [] [] (demo_text (at_most thunks) s.steps name)
+program_forced thunks (Stopped why s) = ended_by [] [] (stop_fault why)
+
+-- the answer by the REF of the program: its value is worked out
+abbrev pub program_wanted : ℕ → Store → Result Ref FileRefusal → Answer
+program_wanted thunks store (Err refusal) = ended_by [] [] (faults.FileRefused refusal)
+program_wanted thunks store (Ok ref) = program_forced thunks (value_of (by_function card_outcome) default_budget ref (start store))
+
+-- the answer by the end of the script: the program is forced, in what the script leaves
+abbrev pub program_built : ScriptEnd Work → Answer
+program_built (Finished commands work) = program_wanted work.thunks work.store (ref_of_item work.files program)
+program_built (Halted halt work) = ended_by [] [] (halt_fault halt)
+
+-- `demo`: its script is inferred in a store and a tree of its own, and its program is forced there; the store and the files outside
+-- stay as they are
+abbrev pub demonstrated : ℕ → Answer
+demonstrated count = program_built (script_inferred (demo_script count) empty_store (demo_files count))
+
 -- the answer of a command, or of words that are none: a line for each command
 abbrev pub answer_of_command : Option Command → List ℕ → Store → Files → Answer
 answer_of_command None text store files = ended_by [] [] faults.Usage
 answer_of_command (Some (Force budget retries items)) text store files = wanted_forced budget items store (wanted_of files items)
+answer_of_command (Some (ForceWith links setup report items)) text store files = ended_by [] [] faults.Usage
 answer_of_command (Some (CreateThunk recipe)) text store files = thunk_created recipe store files
 answer_of_command (Some (Model words)) text store files = modelled words store files
 answer_of_command (Some Infer) text store files = within text (inferred text store files)
 answer_of_command (Some Build) text store files = within text (built text files)
 answer_of_command (Some (Describe item)) text store files = described item store files
+answer_of_command (Some (Demo count)) text store files = demonstrated count
 answer_of_command (Some (Worker address times)) text store files = ended_by [] [] faults.Usage
 answer_of_command (Some Help) text store files = all_done [] help_text
 

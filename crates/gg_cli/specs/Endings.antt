@@ -26,9 +26,11 @@ code_of statuses.TooBig = 7
 code_of statuses.FileRefused = 8
 code_of statuses.NotModelled = 9
 code_of statuses.Clash = 10
+code_of statuses.Differs = 11
 code_of statuses.StoreFault = 12
 code_of statuses.FileFault = 13
 code_of statuses.ByteFault = 14
+code_of statuses.LinksLost = 15
 code_of statuses.Memory = 17
 
 -- how a fault ends a command line: its status, and what its line says

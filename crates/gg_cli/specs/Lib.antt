@@ -3,6 +3,7 @@ pub mod NumberWords
 pub mod ForceWords
 pub mod CreateWords
 pub mod WorkerWords
+pub mod LinkedWords
 pub mod Words
 pub mod Reading
 pub mod Endings
@@ -12,6 +13,7 @@ pub mod ValueLines
 pub mod ValueFiles
 pub mod Description
 pub mod HelpText
+pub mod Demo
 pub mod Parts
 pub mod InputText
 pub mod Answer
@@ -20,3 +22,5 @@ pub mod BuildsAgree
 pub mod LowerFaults
 pub mod Writing
 pub mod StepContracts
+pub mod Linked
+pub mod LinkedSteps

@@ -79,3 +79,9 @@ line_fault (line_faults.Word line word reason) = LineNotModelled line word reaso
 line_fault (line_faults.Apply line fault) = apply_fault line fault
 line_fault (line_faults.Tool line status) = ToolFailed line status
 line_fault line_faults.Memory = Memory
+
+-- the fault of a build in a store and a tree in memory, of which no call is to fail: of these memory alone runs out
+abbrev pub own_fault : TopFault → TopFault
+own_fault StoreFailed = Memory
+own_fault FileFailed = Memory
+own_fault fault = fault

@@ -3,9 +3,9 @@ use Rattle.std.specs.Prelude.{◌≡◌, ◌⊎◌, ℕ, List, [], true, Option,
 use Rattle.object_name.specs.Name.{ObjectName}
 use Rattle.object_name.specs.Causes.{Rose, RoseBy}
 use Rattle.object_name.specs.Streams.{AppendsPrefix}
-use Rattle.blob_store.specs.Store.{Contents, Write, held}
+use Rattle.blob_store.specs.Store.{Contents, Store, Write, held}
 use Rattle.blob_store.specs.Keeping.{Kept, all_written}
-use Rattle.file_tree.specs.Files.{Filed, ChangesPrefix, all_changed}
+use Rattle.file_tree.specs.Files.{Filed, Files, ChangesPrefix, all_changed}
 use Rattle.file_tree.specs.declared.change.Change.{Change}
 use Rattle.file_tree.specs.declared.item.Item.{Item}
 use Rattle.thunk_codec.specs.Reading.{thunk_of}
@@ -25,7 +25,12 @@ use Rattle.gg_cli.specs.Endings.{ending_of, line_of}
 use Rattle.gg_cli.specs.LowerFaults.{filing_fault}
 use Rattle.gg_cli.specs.ValueFiles.{filed}
 use Rattle.gg_cli.specs.ValueLines.{value_lines}
-use Rattle.gg_cli.specs.Answer.{Answer, bytes_described, done, ended_by, forced, thunk_described}
+use Rattle.gg_cli.specs.declared.demo_command.Demonstration.{Demonstration}
+use Rattle.gg_cli.specs.declared.demo_command.Program.{Program}
+use Rattle.build_plan.specs.Symbolic.{Work}
+use Rattle.build_script.specs.Inferring.{at_most}
+use Rattle.build_script.specs.Script.{ScriptEnd, Finished}
+use Rattle.gg_cli.specs.Answer.{Answer, bytes_described, demo_text, done, ended_by, forced, program_built, thunk_described}
 use Rattle.gg_cli.specs.Comes.{Made, Counts, Comes, NothingDone, SaysWhole, TopCause, status_line}
 
 -- the status of the fault comes, and its line is that of the status
@@ -103,12 +108,17 @@ FilingCause retries kept_before kept_after files_before files_after (Err filings
 FilingCause retries kept_before kept_after files_before files_after (Err filings.FileFailed) = RoseBy retries files_before files_after
 FilingCause retries kept_before kept_after files_before files_after (Err filings.Memory) = Unit {0}
 
--- after writes that gave these values, they go to their files and are printed
+-- after writes that gave these values, they go to their files and this text is printed
+abbrev pub HandsOutWith : {T : Type 0} → List ℕ → List ObjectName → List Item → Kept → Kept → Filed → Filed → Option (List ℕ) → Option (List ℕ) → Result T TopFault → Type 0
+HandsOutWith text names items now after files_before files_after out_before out_after result =
+    (before : Kept) (writes : List Write) → now ≡ all_written before writes →
+    Ends (done writes (filed now.store.objects names items) text)
+    (record { kept_before = before; kept_after = after; files_before = files_before; files_after = files_after; out_before = out_before; out_after = out_after }) result
+
+-- the same where the values are printed
 abbrev pub HandsOut : {T : Type 0} → List ObjectName → List Item → Kept → Kept → Filed → Filed → Option (List ℕ) → Option (List ℕ) → Result T TopFault → Type 0
 HandsOut names items now after files_before files_after out_before out_after result =
-    (before : Kept) (writes : List Write) → now ≡ all_written before writes →
-    Ends (done writes (filed now.store.objects names items) (value_lines names items))
-    (record { kept_before = before; kept_after = after; files_before = files_before; files_after = files_after; out_before = out_before; out_after = out_after }) result
+    HandsOutWith (value_lines names items) names items now after files_before files_after out_before out_after result
 
 -- the status and the line of the fault, or out of memory and a prefix of the line
 abbrev pub Speaks : TopFault → Status → Option (List ℕ) → Option (List ℕ) → ℕ → ℕ → Type 0
@@ -195,3 +205,29 @@ GivesThunk name bytes (Err fault) = StopsAt (thunk_described name (thunk_of byte
 abbrev pub ReadsThunk : Contents → ObjectName → Result Parts TopFault → Type 0
 ReadsThunk objects name (Ok thunk) = bytes_described name (held objects name) ≡ thunk_described name (Some thunk)
 ReadsThunk objects name (Err fault) = StopsAt (bytes_described name (held objects name)) fault
+
+-- ---- the demonstration
+
+-- the script is done, so many thunks are made, and its work is what the store and the tree have
+pub record LeavesWork (e : ScriptEnd Work) (store : Store) (files : Files) (thunks : ℕ) : Type 0 where
+  pub commands : ℕ
+  pub last : Work
+  pub finished : e ≡ Finished commands last
+  pub thunks_made : thunks ≡ at_most last.thunks
+  pub same_store : store ≡ last.store
+  pub same_files : files ≡ last.files
+
+-- the thunks of the script, or a fault that ends the demonstration
+abbrev pub MakesThunks : ScriptEnd Work → Store → Files → Result ℕ TopFault → Type 0
+MakesThunks e store files (Ok thunks) = LeavesWork e store files thunks
+MakesThunks e store files (Err fault) = StopsAt (program_built e) fault
+
+-- the program's value, which is printed after so many thunks, or a fault that ends the demonstration
+abbrev pub ShowsProgram : ℕ → Answer → Result Program TopFault → Type 0
+ShowsProgram thunks a (Ok shown) = a ≡ done [] [] (demo_text (at_most thunks) shown.steps shown.name)
+ShowsProgram thunks a (Err fault) = StopsAt a fault
+
+-- what is printed, or a fault that ends the demonstration
+abbrev pub ShowsDemonstration : Answer → Result Demonstration TopFault → Type 0
+ShowsDemonstration a (Ok shown) = a ≡ done [] [] (demo_text shown.thunks shown.program.steps shown.program.name)
+ShowsDemonstration a (Err fault) = StopsAt a fault

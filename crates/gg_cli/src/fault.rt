@@ -6,6 +6,7 @@ ghost use Rattle.gg_cli.specs.LowerFaults.{output_fault};
 use file_tree::{FileRefusal, Reason, WantFault};
 use need_eval::Refusal;
 use object_name::{Bytes, Name, Trouble};
+use std::alloc::AllocError;
 
 /// Why a command line isn't done.
 #[derive(Debug, Drop)]
@@ -97,5 +98,16 @@ impl From<FilingFault> for TopFault {
             FilingFault::FileFailed => TopFault::FileFailed,
             FilingFault::Memory => TopFault::Memory,
         }
+    }
+}
+
+impl From<AllocError> for TopFault {
+    ghost use Rattle.std.specs.Prelude.{◌≡◌};
+    ghost use Rattle.gg_cli.specs.declared.fault.TopFault.TheVariants.{Memory};
+
+    ghost from_gives = { λ _ fault. fault ≡ Memory };
+
+    fn from(_: AllocError) -> Self {
+        TopFault::Memory
     }
 }

@@ -27,7 +27,7 @@ use std::alloc::Global;
 use thunk_codec::Ref;
 
 /// The fault that an evaluation ended with.
-fn fault_of(fault: &EvalFault) -> TopFault
+pub(crate) fn fault_of(fault: &EvalFault) -> TopFault
     requires { fault.now ≢ EvalFault.RunFailed }
     ensures is_fault { IsFaultOf fault.now result }
     ensures no_usage { result ≢ TopFault.Usage }

@@ -12,7 +12,7 @@ use crate::word_fault::WordFault;
 use std::alloc::Global;
 
 /// The greatest number of steps where none is given.
-const DEFAULT_BUDGET: u32 = 65_536;
+pub(crate) const DEFAULT_BUDGET: u32 = 65_536;
 
 /// The greatest number of steps that may be given.
 const MAX_BUDGET: u32 = 1_048_576;
@@ -21,15 +21,15 @@ const MAX_BUDGET: u32 = 1_048_576;
 const MAX_RETRIES: u32 = 16;
 
 /// The most items of a command line.
-const MAX_ITEMS: usize = 4_096;
+pub(crate) const MAX_ITEMS: usize = 4_096;
 
 /// The options that are given: a slot for each.
 #[derive(Clone, Copy, Debug, PartialEq, Eq)]
-struct Options {
+pub(crate) struct Options {
     /// The greatest number of steps.
-    budget: Option<u32>,
+    pub budget: Option<u32>,
     /// How often a failed call is tried again.
-    retries: Option<u32>,
+    pub retries: Option<u32>,
 }
 
 /// The number of steps that a word gives.
@@ -47,7 +47,7 @@ fn read_retries(word: &[u8]) -> Option<u32>
 }
 
 /// The number for a slot: none where the slot is full already.
-fn fill(slot: Option<u32>, number: Option<u32>) -> Option<u32>
+pub(crate) fn fill(slot: Option<u32>, number: Option<u32>) -> Option<u32>
     ensures { result ≡ filled slot number }
 {
     match slot {
@@ -57,7 +57,7 @@ fn fill(slot: Option<u32>, number: Option<u32>) -> Option<u32>
 }
 
 /// The options with one more, where `word` names an option whose slot is empty and `value` is a number for it.
-fn with_option(given: Options, word: &[u8], value: &[u8]) -> Option<Options>
+pub(crate) fn with_option(given: Options, word: &[u8], value: &[u8]) -> Option<Options>
     ensures { result ≡ with_option given word.now value.now }
 {
     if word == b"--budget".as_slice() {

@@ -16,11 +16,13 @@ fn reads_input(command: &Command) -> bool
 {
     match command {
         Command::Force { .. } => false,
+        Command::ForceWith { .. } => false,
         Command::CreateThunk(_) => false,
         Command::Model(_) => false,
         Command::Infer => true,
         Command::Build => true,
         Command::Describe(_) => false,
+        Command::Demo(_) => false,
         Command::Worker { .. } => false,
         Command::Help => false,
     }

@@ -10,6 +10,18 @@ use object_name::{Sink, Trouble};
 use std::alloc::Global;
 
 /// Writes a label and a number in a line.
+pub(crate) fn print_number<S: Sink>(
+    alloc: Global,
+    sink: &mut S,
+    label: &[u8],
+    number: u64,
+) -> Result<(), Trouble>
+    ensures { Writes (count_line label.now number) (S.written sink.old) (S.written sink.new) (S.faults sink.old) (S.faults sink.new) result }
+{
+    write_pieces(alloc, sink, &[Text(label), Number(number), Text(b"\n")])
+}
+
+/// Writes a label and a number of a script's in a line.
 pub(crate) fn print_count<S: Sink>(
     alloc: Global,
     sink: &mut S,
@@ -18,11 +30,7 @@ pub(crate) fn print_count<S: Sink>(
 ) -> Result<(), Trouble>
     ensures { Writes (count_line label.now number) (S.written sink.old) (S.written sink.new) (S.faults sink.old) (S.faults sink.new) result }
 {
-    write_pieces(
-        alloc,
-        sink,
-        &[Text(label), Number(u64::from(number)), Text(b"\n")],
-    )
+    print_number(alloc, sink, label, u64::from(number))
 }
 
 /// Writes the numbers of commands and of thunks.

@@ -28,12 +28,16 @@ pub enum Status {
     NotModelled = 9,
     /// Two objects have one name.
     Clash = 10,
+    /// Two outcomes of one job differ.
+    Differs = 11,
     /// The keeper failed.
     StoreFault = 12,
     /// The tree failed.
     FileFault = 13,
     /// The input or the output failed.
     ByteFault = 14,
+    /// Each link failed more often than was tried again.
+    LinksLost = 15,
     /// Memory ran out.
     Memory = 17,
 }

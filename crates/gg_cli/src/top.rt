@@ -14,6 +14,7 @@ ghost use Rattle.gg_cli.specs.StepContracts.{Ends, EndCause, InputEnd, TopEnds, 
 use crate::build_command::build_text;
 use crate::command::{Command, DEFAULT_RETRIES};
 use crate::create_command::create_thunk;
+use crate::demo_command::demo;
 use crate::describe_command::describe;
 use crate::endings::say;
 use crate::fault::TopFault;
@@ -71,6 +72,8 @@ fn do_command<K: Keeper, T: Tree, O: Sink>(
         Command::Infer => infer_text(alloc, keeper, tree, out, text, DEFAULT_RETRIES),
         Command::Build => build_text(alloc, tree, out, text, DEFAULT_RETRIES),
         Command::Describe(item) => describe(alloc, keeper, tree, out, item, DEFAULT_RETRIES),
+        Command::ForceWith { .. } => unreachable!(),
+        Command::Demo(count) => demo(alloc, out, *count),
         Command::Worker { .. } => unreachable!(),
         Command::Help => help(out),
     }

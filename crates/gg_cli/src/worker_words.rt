@@ -40,7 +40,7 @@ fn read_port(word: &[u8]) -> Option<u32>
 }
 
 /// The address that a word is.
-fn read_address(alloc: Global, word: &[u8]) -> Result<Bytes, WordFault>
+pub(crate) fn read_address(alloc: Global, word: &[u8]) -> Result<Bytes, WordFault>
     ensures exact { Finds result (address_of word.now) }
 {
     if word.starts_with(b"-") {

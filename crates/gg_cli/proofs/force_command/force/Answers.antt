@@ -6,14 +6,23 @@ use Rattle.object_name.specs.Name.{ObjectName}
 use Rattle.gg_cli.specs.Endings.{ending_of}
 use Rattle.gg_cli.specs.StepContracts.{file_faults_of, kept_faults_of}
 use Rattle.gg_cli.proofs.TriesAddUp.{handed, want-unkept, want-fails, kept-unfiled}
+use Rattle.blob_store.specs.Keeping.{kept}
+use Rattle.file_tree.specs.Files.{filed_in}
+use Rattle.file_tree.specs.Wanted.{wanted_of}
 use Rattle.file_tree.proofs.PublicLaws.{same_filed}
+use Rattle.need_eval.specs.Evaluation.{by_function}
+use Rattle.sandbox_run.specs.Cards.{card_outcome}
+use Rattle.gg_cli.specs.ValueLines.{value_lines}
 use Rattle.gg_cli.proofs.PartsCauseTheWhole.{Ends-handed, EndCause-handed, EndCause-within, TopCause-kept}
 use Rattle.gg_cli.proofs.StepsMakeTheAnswer.{want_ends, want_cause, values_end, hands_end}
 use Rattle.gg_cli.proofs.force_command.force.Goals as goal
 
 pub returns-in_err-refs-clause-ends : goal.returns-in_err-refs-clause-ends
-returns-in_err-refs-clause-ends g c kept files =
-    Ends-handed _ _ _ _ c.from_residual.ensures (want_ends _ _ _ _ _ (same_filed g.T.Tree.files g.T.Tree.changes _ _ (c.wanted.ensures.same files) (c.wanted.ensures.list files)) _ _ _ (c.in_err-refs.ensures.exact files))
+returns-in_err-refs-clause-ends g c keeps tells =
+    Ends-handed _ _ _ _ c.from_residual.ensures
+    (want_ends (by_function card_outcome) value_lines c.args.budget c.args.items.now (kept g.K.Keeper.store g.K.Keeper.writes c.args.keeper.now)
+    (filed_in g.T.Tree.files g.T.Tree.changes c.args.tree.now) (filed_in g.T.Tree.files g.T.Tree.changes c.wanted.new.tree)
+    (same_filed g.T.Tree.files g.T.Tree.changes _ _ (c.wanted.ensures.same tells) (c.wanted.ensures.list tells)) (g.O.Sink.written c.args.out.now) (wanted_of (g.T.Tree.files c.args.tree.now) c.args.items.now) c.in_err-refs.field-0.0 (c.in_err-refs.ensures.exact tells))
 
 pub returns-in_err-refs-clause-cause : goal.returns-in_err-refs-clause-cause
 returns-in_err-refs-clause-cause g c = EndCause-handed _ _ _ _ c.from_residual.ensures (want_cause (List Ref) _ _ _ c.in_err-refs.ensures.cause)

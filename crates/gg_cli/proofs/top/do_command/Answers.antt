@@ -36,3 +36,17 @@ returns-in-Help-clause-kept_tries g c kept = rw c.in-Help.is (
 pub returns-in-Help-clause-file_tries : goal.returns-in-Help-clause-file_tries
 returns-in-Help-clause-file_tries g c files = rw c.in-Help.is (
     subst (TriesAtMost 2 g.T.Tree.calls g.T.Tree.faults c.args.tree.now c.args.tree.now) (sym c.help.ensures.no_tree) (tries-none 2 g.T.Tree.calls g.T.Tree.faults c.args.tree.now))
+
+pub returns-in-Demo-clause-ends : goal.returns-in-Demo-clause-ends
+returns-in-Demo-clause-ends g c told files = rw c.in-Demo.is (c.demo.ensures.ends (kept g.K.Keeper.store g.K.Keeper.writes c.args.keeper.now) (filed_in g.T.Tree.files g.T.Tree.changes c.args.tree.now))
+
+pub returns-in-Demo-clause-cause : goal.returns-in-Demo-clause-cause
+returns-in-Demo-clause-cause g c = rw c.in-Demo.is (c.demo.ensures.cause 2 (g.K.Keeper.faults c.args.keeper.now) (g.T.Tree.faults c.args.tree.now))
+
+pub returns-in-Demo-clause-kept_tries : goal.returns-in-Demo-clause-kept_tries
+returns-in-Demo-clause-kept_tries g c kept = rw c.in-Demo.is (
+    subst (TriesAtMost 2 g.K.Keeper.calls g.K.Keeper.faults c.args.keeper.now c.args.keeper.now) (sym c.demo.ensures.no_keeper) (tries-none 2 g.K.Keeper.calls g.K.Keeper.faults c.args.keeper.now))
+
+pub returns-in-Demo-clause-file_tries : goal.returns-in-Demo-clause-file_tries
+returns-in-Demo-clause-file_tries g c files = rw c.in-Demo.is (
+    subst (TriesAtMost 2 g.T.Tree.calls g.T.Tree.faults c.args.tree.now c.args.tree.now) (sym c.demo.ensures.no_tree) (tries-none 2 g.T.Tree.calls g.T.Tree.faults c.args.tree.now))
