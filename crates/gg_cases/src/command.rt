@@ -1,14 +1,32 @@
 //! One command line over a scene.
 
+ghost use Rattle.std.specs.Prelude.{◌≤◌, length};
+
+use crate::links::{LinkScripts, inside_links};
 use crate::part::{Counts, Failing};
 use crate::recorder::{Recorder, Write};
 use crate::scene::Scene;
+use crate::wrong::Wrong;
 use blob_store::MemKeeper;
 use file_tree::MemTree;
-use gg_cli::gg_top;
+use gg_cli::{Command, LinkChoice, force_top, gg_top, read_words};
 use object_name::{Bytes, Many, MemSink, MemSource, Name};
 use std::alloc::{AllocError, Global};
+use std::sync::Wait;
+use std::thread::Threads;
 use thunk_codec::Path;
+use worker_link::Link;
+
+/// The most links of a command.
+const MAX_LINKS: usize = 64;
+
+/// A command line: its words, what it can read, and its links, where a case lists some.
+#[derive(Drop)]
+pub struct Task {
+    pub words: Vec<String>,
+    pub input: Bytes,
+    pub links: LinkScripts,
+}
 
 /// What a command line printed, wrote and left.
 #[derive(Drop)]
@@ -82,8 +100,8 @@ impl Edge {
         })
     }
 
-    /// Runs a command line, and gives its exit status.
-    fn status_of(&mut self, alloc: Global, words: &[String]) -> u8 {
+    /// Runs a command line without links, and gives its exit status.
+    fn status_here(&mut self, alloc: Global, words: &[String]) -> u8 {
         let status = gg_top(
             alloc,
             words,
@@ -94,6 +112,56 @@ impl Edge {
             &mut self.err,
         );
         status.code()
+    }
+
+    /// Runs a command line over links, and gives its exit status. None where there are too few or too many.
+    fn status_over<R: Threads + Wait + Sync, L: Link + Drop + Send>(
+        &mut self,
+        rt: &R,
+        alloc: Global,
+        words: &[String],
+        links: Many<L>,
+    ) -> Option<u8> {
+        let count = links.len();
+        if count == 0 || count > MAX_LINKS {
+            return None;
+        }
+        let end = force_top(
+            rt,
+            alloc,
+            words,
+            &mut self.keeper,
+            &mut self.tree,
+            links,
+            &mut self.out,
+            &mut self.err,
+        );
+        Some(end.status.code())
+    }
+
+    /// Runs a command line over the links of the case, or those inside the process that its words ask for, or without links.
+    fn status_of<R: Threads + Wait + Sync>(
+        &mut self,
+        rt: &R,
+        alloc: Global,
+        task: &Task,
+    ) -> Result<Option<u8>, AllocError> {
+        let words = task.words.as_slice();
+        if !task.links.is_empty() {
+            let links = task.links.links(alloc)?;
+            return Ok(self.status_over(rt, alloc, words, links));
+        }
+        if let Ok(
+            Command::ForceWith {
+                links: LinkChoice::Jobs(count),
+                ..
+            },
+        ) = read_words(alloc, words)
+        {
+            let links = inside_links(alloc, count)?;
+            return Ok(self.status_over(rt, alloc, words, links));
+        }
+        Ok(Some(self.status_here(alloc, words)))
     }
 
     fn calls(&self) -> Counts {
@@ -131,17 +199,23 @@ impl Edge {
     }
 }
 
-/// Runs a command line.
-pub fn run(
+/// Runs a command line, which stands at a line of this number.
+pub fn run<R: Threads + Wait + Sync>(
+    rt: &R,
     alloc: Global,
-    words: &[String],
+    number: usize,
+    task: &Task,
     scene: Scene,
-    input: &[u8],
     failing: Failing,
-) -> Result<Ran, AllocError> {
-    let mut edge = Edge::new(alloc, scene, input, failing)?;
-    let status = edge.status_of(alloc, words);
-    edge.into_ran(status)
+) -> Result<Ran, Wrong> {
+    let mut edge = Edge::new(alloc, scene, task.input.as_slice(), failing)?;
+    match edge.status_of(rt, alloc, task)? {
+        Some(status) => Ok(edge.into_ran(status)?),
+        None => Err(Wrong::Form {
+            number,
+            why: "not 1 to 64 links",
+        }),
+    }
 }
 
 /// A printed line behind a mark.

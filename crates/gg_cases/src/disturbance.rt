@@ -1,23 +1,15 @@
 //! The last command again, with failing calls.
 
 use crate::command::{Ran, run};
-use crate::differences::{calls_line, expect_line, expect_lines, writes_line};
+use crate::differences::{calls_line, expect_line, expect_lines};
 use crate::part::{Failing, Part};
-use crate::playing::Last;
 use crate::recorder::Write;
 use crate::scene::Scene;
-use crate::sections::Sections;
+use crate::undisturbed::Undisturbed;
 use crate::wrong::Wrong;
 use std::alloc::{AllocError, Global};
-
-/// What is said of the files where all are as the undisturbed command leaves them.
-const ALL_CHANGED: &str = "all files are changed";
-
-/// What is said of the files where not all are.
-const NOT_ALL_CHANGED: &str = "not all files are changed";
-
-/// What is said of the files where none is changed.
-const NONE_CHANGED: &str = "no file is changed";
+use std::sync::Wait;
+use std::thread::Threads;
 
 /// How a command is disturbed: of which part so many calls in a row fail, and whether it goes on.
 #[derive(Clone, Copy)]
@@ -73,30 +65,26 @@ impl Disturbance {
 }
 
 /// Does the last command again where each call that it made fails.
-pub fn disturb(
-    alloc: Global,
-    number: usize,
+pub fn disturb<'a, R: Threads + Wait + Sync>(
+    rt: &'a R,
+    undisturbed: &'a Undisturbed<'a>,
     text: &str,
-    sections: &Sections,
-    last: &Last,
 ) -> Result<(), Wrong> {
     let disturbance = Disturbance::read(text).ok_or(Wrong::Form {
-        number,
+        number: undisturbed.number,
         why: "not `each PART call fails`",
     })?;
-    let calls = last.ran.calls.of(disturbance.part);
+    let calls = undisturbed.last.ran.calls.of(disturbance.part);
     for before in 0..calls {
         let first = before.saturating_add(1);
         let disturbed = Disturbed {
-            alloc,
-            number,
-            sections,
-            last,
+            rt,
+            undisturbed,
             disturbance,
             first,
         };
         if let Err(wrong) = disturbed.compare() {
-            return Err(with_call(alloc, wrong, disturbance.part, first));
+            return Err(with_call(undisturbed.alloc, wrong, disturbance.part, first));
         }
     }
     Ok(())
@@ -142,44 +130,50 @@ fn before_call(writes: &[Write], call: u64) -> usize {
 
 /// The last command again, where calls from one on fail.
 #[derive(Drop)]
-struct Disturbed<'a> {
-    alloc: Global,
-    number: usize,
-    sections: &'a Sections,
-    last: &'a Last,
+struct Disturbed<'a, R> {
+    rt: &'a R,
+    undisturbed: &'a Undisturbed<'a>,
     disturbance: Disturbance,
     first: u64,
 }
 
-impl Disturbed<'_> {
+impl<R: Threads + Wait + Sync> Disturbed<'_, R> {
     fn compare(&self) -> Result<(), Wrong> {
-        let failing = self.disturbance.failing(self.alloc, self.first)?;
-        let before = self.last.before.copy(self.alloc)?;
+        let failing = self
+            .disturbance
+            .failing(self.undisturbed.alloc, self.first)?;
+        let before = self.undisturbed.last.before.copy(self.undisturbed.alloc)?;
         let ran = self.run_over(before, failing)?;
         if self.disturbance.goes_on {
             return self.goes_on(&ran);
         }
         self.ends(&ran)?;
         match self.disturbance.part {
-            Part::Output => self.has_left_all(&ran),
+            Part::Output => self.undisturbed.has_left_all(&ran),
             Part::Input => self.has_left_nothing(ran),
             Part::Store | Part::Files => self.goes_on_again(ran),
         }
     }
 
     /// Runs the command again over a store and files.
-    fn run_over(&self, scene: Scene, failing: Failing) -> Result<Ran, AllocError> {
-        let words = self.last.words.as_slice();
-        let input = self.last.input.as_slice();
-        run(self.alloc, words, scene, input, failing)
+    fn run_over(&self, scene: Scene, failing: Failing) -> Result<Ran, Wrong> {
+        let task = &self.undisturbed.last.task;
+        run(
+            self.rt,
+            self.undisturbed.alloc,
+            self.undisturbed.number,
+            task,
+            scene,
+            failing,
+        )
     }
 
     /// The undisturbed answer comes, with some calls more.
     fn goes_on(&self, ran: &Ran) -> Result<(), Wrong> {
-        self.answers(ran)?;
-        self.has_left_all(ran)?;
+        self.undisturbed.answers(ran)?;
+        self.undisturbed.has_left_all(ran)?;
         let Disturbance { part, times, .. } = self.disturbance;
-        let expected = self.last.ran.calls.with_further(part, times);
+        let expected = self.undisturbed.last.ran.calls.with_further(part, times);
         for part in [Part::Store, Part::Files, Part::Input, Part::Output] {
             self.made_calls(ran, part, expected.of(part))?;
         }
@@ -191,11 +185,11 @@ impl Disturbed<'_> {
         let expected = self.ending()?;
         let got = self.printed(ran)?;
         expect_lines(
-            self.alloc,
-            self.number,
+            self.undisturbed.alloc,
+            self.undisturbed.number,
             expected.as_slice(),
             got.as_slice(),
-            self.sections,
+            self.undisturbed.sections,
             &ran.left,
         )?;
         let calls = self
@@ -208,24 +202,30 @@ impl Disturbed<'_> {
     /// What a command that the fault ends must print.
     fn ending(&self) -> Result<Vec<String>, AllocError> {
         let (line, status) = self.disturbance.ending();
-        let mut lines = Vec::new(self.alloc);
-        lines.push(String::from_str(self.alloc, line)?)?;
-        lines.push(String::from_str(self.alloc, status)?)?;
+        let mut lines = Vec::new(self.undisturbed.alloc);
+        lines.push(String::from_str(self.undisturbed.alloc, line)?)?;
+        lines.push(String::from_str(self.undisturbed.alloc, status)?)?;
         Ok(lines)
     }
 
     /// What was printed, but for a prefix of the undisturbed text that a failing output has taken.
     fn printed(&self, ran: &Ran) -> Result<Vec<String>, AllocError> {
         if self.printed_a_prefix(ran) {
-            return ran.faults(self.alloc);
+            return ran.faults(self.undisturbed.alloc);
         }
-        ran.transcript(self.alloc)
+        ran.transcript(self.undisturbed.alloc)
     }
 
     /// Whether a failing output has taken a prefix of the undisturbed text.
     fn printed_a_prefix(&self, ran: &Ran) -> bool {
         match self.disturbance.part {
-            Part::Output => self.last.ran.out.as_slice().starts_with(ran.out.as_slice()),
+            Part::Output => self
+                .undisturbed
+                .last
+                .ran
+                .out
+                .as_slice()
+                .starts_with(ran.out.as_slice()),
             Part::Store | Part::Files | Part::Input => false,
         }
     }
@@ -233,72 +233,26 @@ impl Disturbed<'_> {
     /// So many calls of a part were made.
     fn made_calls(&self, ran: &Ran, part: Part, calls: u64) -> Result<(), Wrong> {
         let word = part.word();
-        let expected = format!(in self.alloc; "calls {word} {calls}")?;
-        let got = calls_line(self.alloc, ran, part)?;
-        expect_line(self.alloc, self.number, expected.as_str(), got.as_str())
-    }
-
-    /// The undisturbed answer was printed.
-    fn answers(&self, ran: &Ran) -> Result<(), Wrong> {
-        let expected = self.last.ran.transcript(self.alloc)?;
-        let got = ran.transcript(self.alloc)?;
-        expect_lines(
-            self.alloc,
-            self.number,
-            expected.as_slice(),
-            got.as_slice(),
-            self.sections,
-            &ran.left,
+        let expected = format!(in self.undisturbed.alloc; "calls {word} {calls}")?;
+        let got = calls_line(self.undisturbed.alloc, ran, part)?;
+        expect_line(
+            self.undisturbed.alloc,
+            self.undisturbed.number,
+            expected.as_str(),
+            got.as_str(),
         )
-    }
-
-    /// All that the undisturbed command writes was written, and nothing else.
-    fn has_left_all(&self, ran: &Ran) -> Result<(), Wrong> {
-        self.wrote(self.last.ran.writes.as_slice(), ran.writes.as_slice())?;
-        self.has_files(ran, ALL_CHANGED)
-    }
-
-    /// These writes were made.
-    fn wrote(&self, expected: &[Write], got: &[Write]) -> Result<(), Wrong> {
-        let expected = writes_line(self.alloc, expected)?;
-        let got = writes_line(self.alloc, got)?;
-        expect_line(self.alloc, self.number, expected.as_str(), got.as_str())
-    }
-
-    /// All files that the undisturbed command changes are changed so, or, where a fault ended this one, not all.
-    fn has_files(&self, ran: &Ran, expected: &str) -> Result<(), Wrong> {
-        let undisturbed = &self.last.ran.left.files;
-        if self.last.before.files == *undisturbed {
-            return Ok(());
-        }
-        let got = if ran.left.files == *undisturbed {
-            ALL_CHANGED
-        } else {
-            NOT_ALL_CHANGED
-        };
-        expect_line(self.alloc, self.number, expected, got)
     }
 
     /// Nothing was written, no file is changed, and the same command over what is left does all.
     fn has_left_nothing(&self, ran: Ran) -> Result<(), Wrong> {
-        self.wrote(&[], ran.writes.as_slice())?;
-        self.has_no_file(&ran)?;
+        self.undisturbed.wrote(&[], ran.writes.as_slice())?;
+        self.undisturbed.has_no_file(&ran)?;
         self.goes_on_again(ran)
-    }
-
-    /// No file is changed.
-    fn has_no_file(&self, ran: &Ran) -> Result<(), Wrong> {
-        let got = if ran.left.files == self.last.before.files {
-            NONE_CHANGED
-        } else {
-            NOT_ALL_CHANGED
-        };
-        expect_line(self.alloc, self.number, NONE_CHANGED, got)
     }
 
     /// How many of the undisturbed command's writes were to be made before a call failed.
     fn writes_before(&self, ran: &Ran) -> usize {
-        let all = self.last.ran.writes.as_slice();
+        let all = self.undisturbed.last.ran.writes.as_slice();
         match self.disturbance.part {
             Part::Store => before_call(all, self.first),
             Part::Files | Part::Input | Part::Output => ran.writes.len(),
@@ -307,15 +261,15 @@ impl Disturbed<'_> {
 
     /// The writes before the failing call were made, and the same command over what is left makes the others.
     fn goes_on_again(&self, ran: Ran) -> Result<(), Wrong> {
-        self.has_files(&ran, NOT_ALL_CHANGED)?;
-        let all = self.last.ran.writes.as_slice();
+        self.undisturbed.lacks_files(&ran)?;
+        let all = self.undisturbed.last.ran.writes.as_slice();
         let before = self.writes_before(&ran).min(all.len());
         let (made, others) = all.split_at(before);
-        self.wrote(made, ran.writes.as_slice())?;
+        self.undisturbed.wrote(made, ran.writes.as_slice())?;
         let Ran { left, .. } = ran;
-        let again = self.run_over(left, Failing::none(self.alloc))?;
-        self.answers(&again)?;
-        self.wrote(others, again.writes.as_slice())?;
-        self.has_files(&again, ALL_CHANGED)
+        let again = self.run_over(left, Failing::none(self.undisturbed.alloc))?;
+        self.undisturbed.answers(&again)?;
+        self.undisturbed.wrote(others, again.writes.as_slice())?;
+        self.undisturbed.has_all_files(&again)
     }
 }

@@ -6,6 +6,8 @@ mod cases;
 mod command;
 mod differences;
 mod disturbance;
+mod links;
+mod over_links;
 mod part;
 mod playing;
 mod recorder;
@@ -13,12 +15,15 @@ mod report;
 mod scene;
 mod section_bytes;
 mod sections;
+mod undisturbed;
 mod wrong;
 
 use anyhow::{Context, Result};
 use report::report_file;
 use std::process::ExitCode;
 use std::rt::{Env, Files};
+use std::sync::Wait;
+use std::thread::Threads;
 use std::{env, fs};
 
 /// The file that names the case files of a folder, one a line.
@@ -53,16 +58,19 @@ fn paths<R: Files + Env + AllocGlobal>(rt: &R) -> Result<Vec<String>> {
 }
 
 /// Runs the cases of a file, prints a report of each, and says whether all are as they must be.
-fn run_file<R: Files + Print + AllocGlobal>(rt: &R, path: &str) -> Result<bool> {
+fn run_file<R: Files + Print + AllocGlobal + Threads + Wait + Sync>(
+    rt: &R,
+    path: &str,
+) -> Result<bool> {
     let text = fs::read_to_string(rt, path).context(format_args!("reading {path}"))?;
-    let report = report_file(rt.alloc(), path, text.as_str())?;
+    let report = report_file(rt, rt.alloc(), path, text.as_str())?;
     for line in report.lines.as_slice() {
         rt.println(line)?;
     }
     Ok(report.ok)
 }
 
-fn run<R: Files + Env + Print + AllocGlobal>(rt: &R) -> Result<bool> {
+fn run<R: Files + Env + Print + AllocGlobal + Threads + Wait + Sync>(rt: &R) -> Result<bool> {
     let mut ok = true;
     let paths = paths(rt)?;
     for path in paths.as_slice() {

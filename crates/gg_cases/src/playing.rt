@@ -1,23 +1,28 @@
 //! A case, step by step.
 
 use crate::cases::{Case, Step};
-use crate::command::{Ran, run};
+use crate::command::{Ran, Task, run};
 use crate::differences::{calls_line, expect_bytes, expect_line, expect_lines, writes_line};
 use crate::disturbance::disturb;
+use crate::links::LinkScripts;
+use crate::over_links::do_over_links;
 use crate::part::{Failing, Part};
 use crate::scene::Scene;
 use crate::sections::{Sections, path_of};
+use crate::undisturbed::Undisturbed;
 use crate::wrong::Wrong;
 use object_name::{Bytes, TryCopy};
 use std::alloc::{AllocError, Global};
+use std::mem::replace;
+use std::sync::Wait;
+use std::thread::Threads;
 
-/// The last command: its words, where it began, what it could read, and what it did.
+/// The last command: where it began, and what it did.
 #[derive(Drop)]
 pub struct Last {
     pub number: usize,
-    pub words: Vec<String>,
+    pub task: Task,
     pub before: Scene,
-    pub input: Bytes,
     pub ran: Ran,
 }
 
@@ -32,12 +37,14 @@ impl Last {
 
 /// Where a case stands.
 #[derive(Drop)]
-struct Play<'a> {
+struct Play<'a, R> {
+    rt: &'a R,
     alloc: Global,
     sections: &'a Sections,
     start: Scene,
     input: Bytes,
     failing: Failing,
+    links: LinkScripts,
     last: Option<Last>,
 }
 
@@ -61,13 +68,20 @@ fn words_of(alloc: Global, text: &str) -> Result<Vec<String>, AllocError> {
 }
 
 /// Plays a case.
-pub fn play_case(alloc: Global, sections: &Sections, case: &Case<'_>) -> Result<(), Wrong> {
+pub fn play_case<R: Threads + Wait + Sync>(
+    rt: &R,
+    alloc: Global,
+    sections: &Sections,
+    case: &Case<'_>,
+) -> Result<(), Wrong> {
     let mut play = Play {
+        rt,
         alloc,
         sections,
         start: Scene::of(alloc, sections)?,
         input: Bytes::new(alloc),
         failing: Failing::none(alloc),
+        links: LinkScripts::none(alloc),
         last: None,
     };
     for step in case.steps.as_slice() {
@@ -76,7 +90,7 @@ pub fn play_case(alloc: Global, sections: &Sections, case: &Case<'_>) -> Result<
     Ok(())
 }
 
-impl Play<'_> {
+impl<R: Threads + Wait + Sync> Play<'_, R> {
     fn step(&mut self, step: &Step<'_>) -> Result<(), Wrong> {
         let number = step.line.number;
         let text = self
@@ -86,11 +100,13 @@ impl Play<'_> {
         match word {
             "$" => self.command(step, rest),
             "input" => self.read_from(number, rest),
+            "link" => self.links.add(self.alloc, number, rest),
             "failing" => self.fail(number, rest),
             "file" | "note" | "object" => self.holds(number, word, rest),
             "placeholder" => self.is_placeholder(number, rest),
             "absent" => self.is_absent(number, rest),
-            "writes" | "calls" | "each" => self.looks_back(number, text.as_str()),
+            "writes" | "calls" => self.looks_back(number, text.as_str()),
+            "each" | "over" => self.does_again(number, word, rest),
             _ => Err(bad(number, "not a line of a case")),
         }
     }
@@ -104,15 +120,13 @@ impl Play<'_> {
             Some(last) => last.into_left(),
             None => self.start.copy(alloc)?,
         };
-        let input = self.input.copy(alloc)?;
-        let failing = std::mem::replace(&mut self.failing, Failing::none(alloc));
-        let ran = run(
-            alloc,
-            words.as_slice(),
-            before.copy(alloc)?,
-            input.as_slice(),
-            failing,
-        )?;
+        let task = Task {
+            words,
+            input: self.input.copy(alloc)?,
+            links: replace(&mut self.links, LinkScripts::none(alloc)),
+        };
+        let failing = replace(&mut self.failing, Failing::none(alloc));
+        let ran = run(self.rt, alloc, number, &task, before.copy(alloc)?, failing)?;
         let expected = self.expected(step)?;
         let got = ran.transcript(alloc)?;
         expect_lines(
@@ -125,9 +139,8 @@ impl Play<'_> {
         )?;
         self.last = Some(Last {
             number,
-            words,
+            task,
             before,
-            input,
             ran,
         });
         Ok(())
@@ -210,16 +223,17 @@ impl Play<'_> {
         expect_line(self.alloc, number, "absent", got)
     }
 
-    /// Compares the last command's writes and calls, or does it again where calls fail.
+    /// The last command.
+    fn last_at(&self, number: usize) -> Result<&Last, Wrong> {
+        self.last
+            .as_ref()
+            .ok_or(bad(number, "no command stands before this line"))
+    }
+
+    /// Compares the last command's writes or calls.
     fn looks_back(&self, number: usize, text: &str) -> Result<(), Wrong> {
         let alloc = self.alloc;
-        let last = self
-            .last
-            .as_ref()
-            .ok_or(bad(number, "no command stands before this line"))?;
-        if let Some(text) = text.strip_prefix("each ") {
-            return disturb(alloc, number, text, self.sections, last);
-        }
+        let last = self.last_at(number)?;
         let got = match text.strip_prefix("calls ") {
             Some(text) => {
                 let word = text.split(' ').next().unwrap_or("");
@@ -229,5 +243,19 @@ impl Play<'_> {
             None => writes_line(alloc, last.ran.writes.as_slice())?,
         };
         expect_line(alloc, number, text, got.as_str())
+    }
+
+    /// Does the last command again, where calls fail or over links.
+    fn does_again(&self, number: usize, word: &str, text: &str) -> Result<(), Wrong> {
+        let undisturbed = Undisturbed {
+            alloc: self.alloc,
+            number,
+            sections: self.sections,
+            last: self.last_at(number)?,
+        };
+        if word == "each" {
+            return disturb(self.rt, &undisturbed, text);
+        }
+        do_over_links(self.rt, &undisturbed, text)
     }
 }

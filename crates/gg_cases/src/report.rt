@@ -7,6 +7,8 @@ use crate::playing::play_case;
 use crate::sections::Sections;
 use crate::wrong::Wrong;
 use std::alloc::{AllocError, Global};
+use std::sync::Wait;
+use std::thread::Threads;
 
 /// What is printed of a case file, and whether all its cases are as they must be.
 #[derive(Drop)]
@@ -132,8 +134,9 @@ impl Report {
     }
 
     /// Adds the cases of a file.
-    fn add_file(
+    fn add_file<R: Threads + Wait + Sync>(
         &mut self,
+        rt: &R,
         alloc: Global,
         name: &str,
         text: &CaseText<'_>,
@@ -146,7 +149,7 @@ impl Report {
         match Sections::read(alloc, text.sections.as_slice()) {
             Ok(sections) => {
                 for case in cases.as_slice() {
-                    let outcome = play_case(alloc, &sections, case);
+                    let outcome = play_case(rt, alloc, &sections, case);
                     self.add_case(alloc, Some(&sections), case, outcome)?;
                 }
                 Ok(())
@@ -171,12 +174,17 @@ impl Report {
 }
 
 /// Runs the cases of a file.
-pub fn report_file(alloc: Global, path: &str, text: &str) -> Result<Report, AllocError> {
+pub fn report_file<R: Threads + Wait + Sync>(
+    rt: &R,
+    alloc: Global,
+    path: &str,
+    text: &str,
+) -> Result<Report, AllocError> {
     let mut report = Report {
         ok: true,
         lines: Vec::new(alloc),
     };
     let text = CaseText::cut(alloc, text)?;
-    report.add_file(alloc, name_of_file(path), &text)?;
+    report.add_file(rt, alloc, name_of_file(path), &text)?;
     Ok(report)
 }
