@@ -2,6 +2,7 @@
 # where it is missing, and folder, a new folder on a memory file system that is removed at the end. python3 finds store.py.
 "$here/gg" >/dev/null 2>&1 || true
 gg=$here/.built/gg
+export GG="$gg"
 folder=$(mktemp -d "${BENCH_FOLDER:-/dev/shm}/gg-bench.XXXXXX")
 trap 'rm -rf "$folder"' EXIT
 export PYTHONPATH="$here/bench" PYTHONDONTWRITEBYTECODE=1

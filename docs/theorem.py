@@ -1,12 +1,12 @@
 #!/usr/bin/env python3
-"""Lists the definitions that the contract of gg_top cites, directly or through others.
+"""Lists the definitions that the contracts of the calls of TOPS cite, directly or through others.
 
     docs/theorem.py             prints the list
     docs/theorem.py --check     ends with status 1 where docs/THEOREM.md has another list
     docs/theorem.py --write     puts the list into docs/THEOREM.md
     docs/theorem.py --why NAME  says what cites the definitions of this name
 
-It begins at the `ensures` clauses of gg_top and follows names through the `use` lines: to the
+It begins at the `ensures` clauses of these calls and follows names through the `use` lines: to the
 definitions of crates/*/specs, to the types of crates/*/src that these speak of (`specs.declared`),
 and to the ghost members of traits. Names of other crates and of the standard library are listed by
 module. A definition is comment lines, a head (`abbrev pub NAME`, `unfoldable pub NAME`, `pub record
@@ -24,7 +24,9 @@ CRATES = ROOT / "crates"
 PAGE = ROOT / "docs" / "THEOREM.md"
 BEGIN, END = "<!-- the list, by docs/theorem.py --write -->", "<!-- end of the list -->"
 WIDTH = 100
-TOP_CRATE, TOP_FILE, TOP_FUNCTION = "gg_cli", "src/top.rt", "gg_top"
+
+# The calls, each by its crate, its file and its name.
+TOPS = [("gg_cli", "src/top.rt", "gg_top"), ("gg_cli", "src/linked_top.rt", "force_top")]
 
 # The groups in reading order, by crates, or by files where these don't stand with their crate.
 GROUPS = [
@@ -37,6 +39,7 @@ GROUPS = [
     ("Cards", ["tool_text", "tool_bin", "sandbox_run"]),
     ("Models", ["include_scan", "build_plan", "model_gcc", "model_binutils"]),
     ("Scripts", ["build_script"]),
+    ("Links", ["job_wire", "worker_link", "lease_table", "force_core", "force_pool"]),
     ("Answer", ["gg_cli"]),
     ("Ends", ["object_name/specs/Causes.antt", "object_name/specs/Streams.antt",
               "object_name/src/sink.rt", "object_name/src/source.rt", "gg_cli/specs/InputText.antt",
@@ -48,7 +51,7 @@ GROUPS = [
 # `scope` says what the names stand for.
 Definition = namedtuple("Definition", "crate file name line meaning size statements outer scope")
 
-HEAD = re.compile(r"(?:(?:abbrev|unfoldable) pub|pub record|pub data|pub|record|data) (\S+)")
+HEAD = re.compile(r"(?:(?:abbrev|unfoldable) pub|pub record|pub data|pub|abbrev|record|data) (\S+)")
 LEMMA = re.compile(r"([^\s(){}\[\];,:=]+) : ")
 USE = re.compile(r"(?m)^\s*(?:pub |ghost )?use Rattle\.(\S+?)(?:\.\{([^}]*)\}| as (\S+?));?$")
 RUST_USE = re.compile(r"(?m)^use (\w+)(?:::\w+)*?::(?:\{([^}]*)\}|(\w+));")
@@ -328,8 +331,10 @@ class RustFile:
         at = self.first(r"pub trait " + trait + r"\b")
         if at is None:
             return None
-        n = next(n for n in range(at, len(self.lines))
-                 if re.match(r"\s*ghost " + member + ":", self.lines[n]))
+        n = next((n for n in range(at, len(self.lines))
+                  if re.match(r"\s*ghost " + member + ":", self.lines[n])), None)
+        if n is None:
+            return None
         type_of = self.lines[n].split(":", 1)[1].strip(" {};")
         return self.item(f"{trait}::{member}", n, doc_above(self.lines, n), 1, type_of)
 
@@ -432,12 +437,17 @@ class Library:
 
 
 def roots_of(library):
-    """What the clauses of gg_top cite: definitions, types, ghost members of its parameters."""
-    file = library.rust_file(TOP_CRATE, TOP_FILE)
+    """What the clauses of the calls cite."""
+    return [root for top in TOPS for root in roots_of_call(library, *top)]
+
+
+def roots_of_call(library, top_crate, top_file, function):
+    """What the clauses of a call cite: definitions, types, ghost members of its parameters."""
+    file = library.rust_file(top_crate, top_file)
     text = "\n".join(file.lines)
-    text = text[text.index(f"pub fn {TOP_FUNCTION}<"):]
+    text = text[text.index(f"pub fn {function}<"):]
     signature = re.sub(r"(?m)^\s*//.*$", "", text[:text.index("\n{\n")])
-    traits = dict(re.findall(r"(\w): (\w+)", signature[:signature.index("(")]))
+    traits = dict(re.findall(r"\b([A-Z]\w?): (\w+)", signature[:signature.index("ensures")]))
     roots = []
     for clause in re.findall(r"ensures \w+ \{(.*?)\}\s*(?=ensures|$)", signature, re.S):
         roots += [library.resolve(*target) for target in targets_in(clause, file.scope)]
@@ -447,7 +457,10 @@ def roots_of(library):
         for parameter, member in re.findall(r"\b([A-Z])\.(\w+)", clause):
             trait = traits[parameter]
             crate = file.crate_of[trait]
-            roots.append(library.find_in_src(crate, lambda f: f.ghost_member(trait, member)))
+            found = library.find_in_src(crate, lambda f: f.ghost_member(trait, member))
+            # A link is a function: what isn't its own it has from there.
+            found = found or library.find_in_src("thunk_codec", lambda f: f.ghost_member("Function", member))
+            roots.append(found)
     return [root for root in roots if root]
 
 
