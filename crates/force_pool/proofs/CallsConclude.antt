@@ -1,7 +1,7 @@
 -- What a call ensures, by what came of its parts.
-use Rattle.std.proofs.Common.{◌≡◌, ◌≢◌, ◌≤◌, ℕ, ◌+◌, List, [], ◌∷◌, ◌++◌, length, take, Bool, true, false, Result, Ok, Err, refl, sym, ap, ◌∙◌, arith, append-nil, append_assoc, inl}
+use Rattle.std.proofs.Common.{◌≡◌, ◌≢◌, ℕ, List, [], ◌∷◌, ◌++◌, length, take, Bool, true, false, Result, Ok, Err, refl, sym, ap, ◌∙◌, arith, append-nil, append_assoc, inl}
 use Rattle.std.specs.Prelude.{if◌then◌else◌}
-use Rattle.std.specs.List.{AllZip, AllByRecursion}
+use Rattle.std.specs.List.{AllZip}
 use Rattle.std.proofs.lemmas.Bool.{false≢true}
 use Rattle.object_name.specs.Name.{ObjectName}
 use Rattle.object_name.specs.Causes.{Rose, RoseBy}
@@ -18,12 +18,12 @@ use Rattle.need_eval.specs.Evaluation.{values_of, by_function, by_list}
 use Rattle.need_eval.specs.WritePrefix.{Does, EvalCause, StopsPartWay, state_after}
 use Rattle.need_eval.specs.Progress.{Evaluates}
 use Rattle.need_eval.specs.Evaluating.{EvaluatesAll, EvaluatesInFull}
-use Rattle.need_eval.specs.StepContracts.{HasKeeperCause, KeeperCause}
+use Rattle.need_eval.specs.StepContracts.{HasKeeperCause}
 use Rattle.need_eval.proofs.StoreIsWritten.{Grows, values_of-grows}
 use Rattle.need_eval.proofs.ClashesAreMet.{evaluates-in_full}
 use Rattle.need_eval.proofs.EvaluateGoesRound.{cause-of_keeper}
 use Rattle.force_core.specs.declared.event.Event.{Event}
-use Rattle.force_core.specs.History.{State as BookState, start as book_start, replay}
+use Rattle.force_core.specs.History.{start as book_start}
 use Rattle.force_pool.specs.declared.worker_end.WorkerEnd.{WorkerEnd}
 use Rattle.force_pool.specs.declared.worker_end.WorkerEnd.TheVariants as ends
 use Rattle.force_pool.specs.declared.halt.Halt.{Halt}
@@ -32,12 +32,11 @@ use Rattle.force_pool.specs.declared.fault.ForceFault.{ForceFault}
 use Rattle.force_pool.specs.declared.fault.ForceFault.TheVariants.{Eval, Differs, LinksLost, Memory}
 use Rattle.force_pool.specs.declared.report.Report.{Report}
 use Rattle.force_pool.specs.Counting.{starts_of, firsts_of, losses_of}
-use Rattle.force_pool.specs.Links.{Mark, IsBack, IsLost, AreTold, CountsOn, DiffersBy, HasNumbers, sent_in, faults_in}
+use Rattle.force_pool.specs.Links.{Mark, IsBack, DiffersBy}
 use Rattle.force_pool.specs.Sums.{Sum, Fits, Returns, ShowUntold}
-use Rattle.force_pool.specs.Forcing.{as_evaluated, stops_as}
+use Rattle.force_pool.specs.Forcing.{as_evaluated}
 use Rattle.force_pool.specs.Walks.{IsEvaluation, as_walked, halts_as}
-use Rattle.force_pool.specs.Concluding.{conclusion, concluding, stopping, IsClosing, IsPoolEnd}
-use Rattle.force_pool.specs.Report.{IsReport, LeavesOpenJob}
+use Rattle.force_pool.specs.Concluding.{conclusion, stopping, IsClosing, IsPoolEnd}
 use Rattle.force_pool.proofs.WalksConclude.{walk-unbegun}
 
 -- all that is written was

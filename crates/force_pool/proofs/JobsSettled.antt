@@ -2,7 +2,7 @@
 use Rattle.std.proofs.Common.{◌≡◌, ℕ, List, [], ◌∷◌, ◌++◌, refl, sym, ap, ◌∙◌, append_assoc, append-nil, subst}
 use Rattle.need_eval.specs.declared.prepared.Prepared.{Prepared}
 use Rattle.force_core.specs.Book.{Core}
-use Rattle.force_pool.specs.Settling.{Settlement, Settles, OffersAll, OffersAs, OffersSome, IsFull, TakesOn, KeepsBack}
+use Rattle.force_pool.specs.Settling.{Settles, OffersAll, OffersAs, OffersSome, TakesOn, KeepsBack}
 
 all-push : (before between after : Core) (jobs : List Prepared) (ids : List ℕ) (job : Prepared) (id : ℕ) → OffersAll before between jobs ids → OffersAs between after job id → OffersAll before after (jobs ++ job ∷ []) (ids ++ id ∷ [])
 all-push before between after [] [] job id all one = (after, subst (λ (b : Core). OffersAs b after job id) (sym all) one, refl)

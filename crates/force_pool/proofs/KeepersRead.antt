@@ -1,5 +1,5 @@
 -- Keepers that are only read.
-use Rattle.std.proofs.Common.{◌≡◌, ◌≤◌, ℕ, List, refl, ◌∙◌, arith}
+use Rattle.std.proofs.Common.{ℕ, List, refl, ◌∙◌, arith}
 use Rattle.blob_store.specs.Store.{Store, Write}
 use Rattle.force_pool.specs.Walks.{IsOnlyRead}
 

@@ -7,5 +7,6 @@ pub mod WorkersGoOn
 pub mod WorkerSums
 pub mod OpenJobs
 pub mod KeepersRead
+pub mod ReadsAhead
 pub mod WalksConclude
 pub mod CallsConclude

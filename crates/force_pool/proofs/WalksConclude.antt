@@ -1,22 +1,21 @@
 -- How the caller's walk goes on and ends.
-use Rattle.std.proofs.Common.{◌≡◌, ◌≤◌, ℕ, List, Option, Result, Ok, Err, refl, sym, subst, ◌∙◌, arith}
+use Rattle.std.proofs.Common.{◌≡◌, ◌≤◌, ℕ, List, Result, Ok, Err, refl, ◌∙◌, arith}
 use Rattle.std.specs.Prelude.{IfSome}
 use Rattle.thunk_codec.specs.declared.reference.Ref.{Ref}
 use Rattle.thunk_codec.specs.declared.job.Job.{Job}
 use Rattle.thunk_codec.specs.declared.job.Outcome.{Outcome}
 use Rattle.thunk_codec.specs.Outcome.{Fits}
 use Rattle.blob_store.specs.Store.{Store, Write}
-use Rattle.blob_store.specs.Keeping.{Kept, kept}
+use Rattle.blob_store.specs.Keeping.{kept}
 use Rattle.need_eval.specs.declared.evaluating.Values.{Values}
 use Rattle.need_eval.specs.declared.fault.EvalFault.{EvalFault}
 use Rattle.need_eval.specs.declared.fault.EvalFault.TheVariants as evals
-use Rattle.need_eval.specs.declared.prepared.Prepared.{Prepared}
 use Rattle.need_eval.specs.declared.walker.Walker.{Walker}
 use Rattle.need_eval.specs.declared.walker.Walked.{Walked}
 use Rattle.need_eval.specs.declared.walker.Walked.TheVariants.{Ended, Blocked}
 use Rattle.need_eval.specs.StepContracts.{OnlyReads, HasKeeperCause, KeeperCause}
 use Rattle.need_eval.specs.Walking.{IsFresh, IsWalking, HasSetup, HasSteps, Advances, Supplies, StandsAt, Waits, blocked_at}
-use Rattle.need_eval.specs.Progress.{IsProgress, Evaluates}
+use Rattle.need_eval.specs.Progress.{IsProgress}
 use Rattle.need_eval.proofs.ProgressConcludes.{progress-begins, concludes-reading, concludes-run}
 use Rattle.need_eval.proofs.EvaluateGoesRound.{IsBetween, told-same, cause-of_reading, round-unbegun, round-ends, round-waits, round-supplied, round-stops}
 use Rattle.force_pool.specs.declared.halt.Pause.{Pause}

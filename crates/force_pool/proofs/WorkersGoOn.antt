@@ -1,10 +1,10 @@
 -- Workers that go on.
-use Rattle.std.proofs.Common.{◌≡◌, ◌≤◌, ◌<◌, ℕ, ◌+◌, ◌-◌, List, ◌++◌, length, true, false, refl, ap, ◌∙◌, arith, append_assoc, min, length-append}
+use Rattle.std.proofs.Common.{◌≡◌, ◌<◌, ℕ, List, ◌++◌, length, true, false, refl, ap, ◌∙◌, arith, append_assoc, length-append}
 use Rattle.std.proofs.lemmas.Bool.{false≢true}
 use Rattle.thunk_codec.specs.declared.job.Job.{Job}
 use Rattle.force_pool.specs.declared.worker_end.WorkerEnd.{WorkerEnd}
 use Rattle.force_pool.specs.declared.worker_end.WorkerEnd.TheVariants.{Going, GaveUp, Differs, Memory}
-use Rattle.force_pool.specs.Account.{Account, is_going, is_memory, Gives, Advances, Goes}
+use Rattle.force_pool.specs.Account.{Account, is_going, is_memory, Advances, Goes}
 use Rattle.force_pool.specs.Links.{last_count}
 
 going-no-memory : (e : WorkerEnd) → is_going e ≡ true → is_memory e ≡ false

@@ -8,5 +8,6 @@ pub mod Quiet
 pub mod Account
 pub mod Hearing
 pub mod Sums
+pub mod Values
 pub mod Walks
 pub mod Concluding

@@ -1,6 +1,6 @@
 -- The links of a call, when they were given and when they came back.
 use Rattle.std.specs.Prelude.{◌≡◌, ◌≢◌, ◌≤◌, ◌<◌, ◌+◌, ◌-◌, ◌^◌, ℕ, List, length, take, map, sum_by, Result, Ok, Err}
-use Rattle.std.specs.List.{AllZip, AllByRecursion}
+use Rattle.std.specs.List.{AllByRecursion}
 use Rattle.object_name.specs.Causes.{RoseBy}
 use Rattle.thunk_codec.specs.declared.job.Job.{Job}
 use Rattle.need_eval.specs.declared.evaluating.Values.{Values}

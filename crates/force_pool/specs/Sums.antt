@@ -5,7 +5,7 @@ use Rattle.thunk_codec.specs.declared.job.Job.{Job}
 use Rattle.force_pool.specs.declared.worker_end.WorkerEnd.{WorkerEnd}
 use Rattle.force_pool.specs.declared.worker_end.WorkerEnd.TheVariants.{Going, GaveUp, Differs, Memory}
 use Rattle.force_pool.specs.Account.{Account, is_memory, is_given_up}
-use Rattle.force_pool.specs.Links.{Mark, IsBack, IsLost, AreTold, CountsOn, sent_in, faults_in}
+use Rattle.force_pool.specs.Links.{Mark, IsLost, AreTold, CountsOn, sent_in, faults_in}
 
 -- a worker that begins
 abbrev pub fresh : Mark → ℕ → Account

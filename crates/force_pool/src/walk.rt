@@ -13,6 +13,7 @@ use crate::desk::Desk;
 use crate::hall::Hall;
 use crate::halt::{Halt, Pause};
 use crate::limits::Limits;
+use crate::run_ahead::RunAhead;
 use crate::slot::Slot;
 use blob_store::Keeper;
 use need_eval::{Prepared, Values, Walked, Walker};
@@ -26,12 +27,12 @@ use worker_link::Link;
 /// Comes up to what can be run ahead, and says whether more can be made at once. Where memory is refused for that, nothing more is
 /// run ahead. The keeper is only read.
 #[tactic(auto, using(crate::proofs::KeepersRead::read_none))]
-fn come_on<R: Wait, K: Keeper, L: Link, S: Limits, P: Ledger, O: Ledger>(
+fn come_on<R: Wait, K: Keeper, L: Link, S: Limits, P: Ledger, O: Ledger, A: RunAhead>(
     rt: &R,
     alloc: Global,
     keeper: &mut K,
     hall: &Hall<L, S, P, O>,
-    ahead: &mut Option<Ahead>,
+    ahead: &mut Option<A>,
 ) -> bool
     ensures { IsOnlyRead K.tells K.store K.writes K.faults keeper.old keeper.new }
 {
@@ -47,10 +48,10 @@ fn come_on<R: Wait, K: Keeper, L: Link, S: Limits, P: Ledger, O: Ledger>(
 }
 
 /// Offers the jobs that are ready ahead. Where memory is refused for that, nothing more is run ahead.
-fn offer_ahead<F: Function, S: Limits, P: Ledger, O: Ledger>(
+fn offer_ahead<F: Function, S: Limits, P: Ledger, O: Ledger, A: RunAhead>(
     alloc: Global,
     desk: &mut Desk<F, S, P, O>,
-    ahead: &mut Option<Ahead>,
+    ahead: &mut Option<A>,
 ) {
     let Some(mut known) = ahead.take() else {
         return;
@@ -58,17 +59,17 @@ fn offer_ahead<F: Function, S: Limits, P: Ledger, O: Ledger>(
     let Ok(settled) = desk.settle(alloc, known.take_jobs(alloc)) else {
         return;
     };
-    if known.settled(alloc, settled).is_ok() {
+    if known.settled(settled).is_ok() {
         *ahead = Some(known);
     }
 }
 
 /// Offers the job that is wanted now, where it isn't known, and the jobs that are ready ahead, unless all work was ended.
-fn offer_all<F: Function, S: Limits, P: Ledger, O: Ledger>(
+fn offer_all<F: Function, S: Limits, P: Ledger, O: Ledger, A: RunAhead>(
     alloc: Global,
     desk: &mut Desk<F, S, P, O>,
     prepared: &Prepared,
-    ahead: &mut Option<Ahead>,
+    ahead: &mut Option<A>,
 ) -> Result<(), Pause> {
     if desk.is_closed() {
         return Err(Pause::Stopped);
@@ -80,13 +81,13 @@ fn offer_all<F: Function, S: Limits, P: Ledger, O: Ledger>(
     Ok(())
 }
 
-/// Whether first outcomes were entered that the tracker hasn't heard of.
-fn is_behind<F: Function, S: Limits, P: Ledger, O: Ledger>(
+/// Whether there may be answers that what is run ahead hasn't heard of.
+fn is_behind<F: Function, S: Limits, P: Ledger, O: Ledger, A: RunAhead>(
     desk: &Desk<F, S, P, O>,
-    ahead: &Option<Ahead>,
+    ahead: &Option<A>,
 ) -> bool {
     match ahead {
-        Some(known) => known.heard() != desk.firsts(),
+        Some(known) => known.is_behind(desk.firsts()),
         None => false,
     }
 }
@@ -115,14 +116,14 @@ fn step_here<R: Wait, L: Link, S: Limits, P: Ledger, O: Ledger>(
 
 /// Offers all jobs that are ready, and looks for the outcome of the one that is wanted now. It waits where it isn't there and
 /// nothing else is to be done: the caller's workers have had no step to take, and nothing was entered meanwhile.
-fn look<R: Wait, L: Link, S: Limits, P: Ledger, O: Ledger>(
+fn look<R: Wait, L: Link, S: Limits, P: Ledger, O: Ledger, A: RunAhead>(
     rt: &R,
     alloc: Global,
     hall: &Hall<L, S, P, O>,
     is_here: bool,
     has_stepped: bool,
     prepared: &Prepared,
-    ahead: &mut Option<Ahead>,
+    ahead: &mut Option<A>,
 ) -> Result<Option<Outcome>, Pause>
     ensures { IfOk result (λ found. IfSome found (λ outcome. IsOutcome L.tells L.outcome prepared.now.job outcome)) }
 {
@@ -145,16 +146,35 @@ fn look<R: Wait, L: Link, S: Limits, P: Ledger, O: Ledger>(
     Ok(None)
 }
 
+/// Comes up to what can be run ahead, and offers it where more can be made at once; says whether that is so. The keeper is only read.
+#[tactic(auto, using(crate::proofs::KeepersRead::read_none))]
+fn offer_more<R: Wait, K: Keeper, L: Link, S: Limits, P: Ledger, O: Ledger, A: RunAhead>(
+    rt: &R,
+    alloc: Global,
+    keeper: &mut K,
+    hall: &Hall<L, S, P, O>,
+    ahead: &mut Option<A>,
+    prepared: &Prepared,
+) -> Result<bool, Pause>
+    ensures { IsOnlyRead K.tells K.store K.writes K.faults keeper.old keeper.new }
+{
+    if !come_on(rt, alloc, keeper, hall, ahead) {
+        return Ok(false);
+    }
+    offer_all(alloc, &mut hall.desk.lock(rt), prepared, ahead)?;
+    Ok(true)
+}
+
 /// The outcome of a job, when it is there. It is looked for once all jobs that are ready ahead were offered, as far as the book has
 /// room for them.
 #[tactic(auto, using(crate::proofs::KeepersRead::read_none, crate::proofs::KeepersRead::read_both))]
-fn awaited<R: Wait, K: Keeper, L: Link, S: Limits, P: Ledger, O: Ledger>(
+fn awaited<R: Wait, K: Keeper, L: Link, S: Limits, P: Ledger, O: Ledger, A: RunAhead>(
     rt: &R,
     alloc: Global,
     keeper: &mut K,
     hall: &Hall<L, S, P, O>,
     slots: &mut Vec<Slot<L, S, P, O>>,
-    ahead: &mut Option<Ahead>,
+    ahead: &mut Option<A>,
     prepared: &Prepared,
 ) -> Result<Outcome, Pause>
     ensures outcome { IfOk result (λ outcome. IsOutcome L.tells L.outcome prepared.now.job outcome) }
@@ -163,8 +183,7 @@ fn awaited<R: Wait, K: Keeper, L: Link, S: Limits, P: Ledger, O: Ledger>(
 {
     let mut has_stepped = true;
     'rounds: for _ in rt.forever() {
-        if come_on(rt, alloc, keeper, hall, ahead) {
-            offer_all(alloc, &mut hall.desk.lock(rt), prepared, ahead)?;
+        if offer_more(rt, alloc, keeper, hall, ahead, prepared)? {
             continue;
         }
         let is_here = is_some_here(slots.as_slice());
@@ -177,13 +196,13 @@ fn awaited<R: Wait, K: Keeper, L: Link, S: Limits, P: Ledger, O: Ledger>(
 }
 
 /// The outcome of the job that a walker waits for.
-fn awaited_by<R: Wait, K: Keeper, L: Link, S: Limits, P: Ledger, O: Ledger>(
+fn awaited_by<R: Wait, K: Keeper, L: Link, S: Limits, P: Ledger, O: Ledger, A: RunAhead>(
     rt: &R,
     alloc: Global,
     keeper: &mut K,
     hall: &Hall<L, S, P, O>,
     slots: &mut Vec<Slot<L, S, P, O>>,
-    ahead: &mut Option<Ahead>,
+    ahead: &mut Option<A>,
     walker: &Walker,
 ) -> Result<Outcome, Pause>
     requires { IsSome (blocked_at walker.now) }
@@ -195,6 +214,34 @@ fn awaited_by<R: Wait, K: Keeper, L: Link, S: Limits, P: Ledger, O: Ledger>(
     match walker.blocked() {
         Some(prepared) => awaited(rt, alloc, keeper, hall, slots, ahead, prepared),
         None => unreachable!(),
+    }
+}
+
+/// The values of references, by need, with outcomes that workers find, and with what can be run ahead.
+fn walk_with<R: Wait, K: Keeper, L: Link, S: Limits, P: Ledger, O: Ledger, A: RunAhead>(
+    rt: &R,
+    alloc: Global,
+    keeper: &mut K,
+    refs: Many<Ref>,
+    budget: u32,
+    retries: u32,
+    hall: &Hall<L, S, P, O>,
+    slots: &mut Vec<Slot<L, S, P, O>>,
+    ahead: &mut Option<A>,
+) -> Result<Values, Halt>
+    requires { AllByRecursion IsRef refs }
+    ensures evaluates { IsEvaluation K.tells K.store K.writes K.faults L.tells L.outcome budget retries refs keeper.old keeper.new (as_walked result) }
+    ensures slots { slots.new.items ≡ slots.old.items }
+{
+    let mut walker = Walker::new(alloc, refs, budget, retries)?;
+    'walk: loop {
+        match walker.advance(alloc, keeper)? {
+            Walked::Ended(values) => return Ok(values),
+            Walked::Blocked => {}
+        }
+        let outcome = awaited_by(rt, alloc, keeper, hall, slots, ahead, &walker)?;
+        walker.supply(alloc, keeper, outcome)?;
+        step_here(rt, alloc, hall, slots);
     }
 }
 
@@ -214,14 +261,7 @@ pub(crate) fn walk<R: Wait, K: Keeper, L: Link, S: Limits, P: Ledger, O: Ledger>
     ensures slots { slots.new.items ≡ slots.old.items }
 {
     let mut ahead = Ahead::new(alloc, &refs, retries).ok();
-    let mut walker = Walker::new(alloc, refs, budget, retries)?;
-    'walk: loop {
-        match walker.advance(alloc, keeper)? {
-            Walked::Ended(values) => return Ok(values),
-            Walked::Blocked => {}
-        }
-        let outcome = awaited_by(rt, alloc, keeper, hall, slots, &mut ahead, &walker)?;
-        walker.supply(alloc, keeper, outcome)?;
-        step_here(rt, alloc, hall, slots);
-    }
+    walk_with(
+        rt, alloc, keeper, refs, budget, retries, hall, slots, &mut ahead,
+    )
 }

@@ -1,4 +1,4 @@
-use Rattle.std.proofs.Common.{◌≡◌, ◌∙◌, sym}
+use Rattle.std.proofs.Common.{◌∙◌, sym}
 use Rattle.thunk_codec.proofs.PublicLaws.{same_job-equal}
 use Rattle.force_pool.proofs.desk.is_equal.Goals as goal
 

@@ -1,4 +1,3 @@
-use Rattle.std.proofs.Common.{◌≡◌}
 use Rattle.force_pool.proofs.OpenJobs.{open-by}
 use Rattle.force_pool.proofs.desk.is_open.Goals as goal
 

@@ -1,4 +1,3 @@
-use Rattle.std.proofs.Common.{◌≡◌}
 use Rattle.force_pool.proofs.QuietBooks.{quiet-offer-tried}
 use Rattle.force_pool.proofs.desk.offer_quietly.Goals as goal
 

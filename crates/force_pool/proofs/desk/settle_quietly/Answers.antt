@@ -1,4 +1,3 @@
-use Rattle.std.proofs.Common.{◌≡◌}
 use Rattle.force_pool.proofs.QuietBooks.{quiet-settled}
 use Rattle.force_pool.proofs.desk.settle_quietly.Goals as goal
 

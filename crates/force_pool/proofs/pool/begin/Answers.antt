@@ -1,4 +1,4 @@
-use Rattle.std.proofs.Common.{◌≡◌, ◌∙◌, List, length, map, ap, arith}
+use Rattle.std.proofs.Common.{◌∙◌, length, ap, arith}
 use Rattle.force_pool.specs.Links.{marks_of}
 use Rattle.force_pool.specs.Sums.{Readiness}
 use Rattle.force_pool.proofs.WorkerSums.{parts_are}

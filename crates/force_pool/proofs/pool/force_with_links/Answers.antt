@@ -1,4 +1,3 @@
-use Rattle.std.proofs.Common.{◌≡◌, arith}
 use Rattle.blob_store.specs.Keeping.{kept}
 use Rattle.force_pool.specs.Forcing.{as_evaluated}
 use Rattle.force_pool.proofs.CallsConclude.{undisturbed-evaluates}

@@ -1,4 +1,4 @@
-use Rattle.std.specs.Prelude.{◌+◌, length}
+use Rattle.std.specs.Prelude.{length}
 use Rattle.force_pool.proofs.pool.force_with_links.Given as goal
 
 abbrev pub ghosts-force_under-S-Limits : goal.ghosts-force_under-S-Limits

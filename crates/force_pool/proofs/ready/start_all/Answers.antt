@@ -1,4 +1,4 @@
-use Rattle.std.proofs.Common.{◌≡◌, ◌≤◌, ◌+◌, ◌∷◌, ◌++◌, [], List, length, arith, ap, sym, ◌∙◌}
+use Rattle.std.proofs.Common.{List, length, arith, ap, sym, ◌∙◌}
 use Rattle.std.proofs.lemmas.List.{length-map}
 use Rattle.force_pool.specs.Links.{Mark}
 use Rattle.force_pool.specs.Sums.{Readiness}

@@ -1,4 +1,4 @@
-use Rattle.std.proofs.Common.{◌≡◌, List, length, ap, sym, ◌∙◌}
+use Rattle.std.proofs.Common.{List, length, ap, sym, ◌∙◌}
 use Rattle.force_pool.specs.Links.{Mark}
 use Rattle.force_pool.proofs.WorkerSums.{parts_same}
 use Rattle.force_pool.proofs.scoped.within.Goals as goal

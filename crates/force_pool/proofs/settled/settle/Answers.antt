@@ -1,6 +1,6 @@
-use Rattle.std.proofs.Common.{◌≡◌, ◌++◌, ◌∷◌, [], rules, ap, sym, ◌∙◌, append_assoc, arith, List, ℕ}
+use Rattle.std.proofs.Common.{◌++◌, ◌∷◌, [], ap, ◌∙◌, arith, List, ℕ}
 use Rattle.std.proofs.lemmas.Grind.{common_steps}
-use Rattle.force_pool.proofs.JobsSettled.{settles-taken, settles-kept, settles-some}
+use Rattle.force_pool.proofs.JobsSettled.{settles-taken}
 use Rattle.force_pool.proofs.settled.settle.Goals as goal
 
 pub jobs-preserved-in-Some-taken : goal.jobs-preserved-in-Some-taken

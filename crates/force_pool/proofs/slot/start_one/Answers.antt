@@ -1,5 +1,5 @@
-use Rattle.std.proofs.Common.{◌≡◌, sym, subst, ap}
-use Rattle.force_pool.specs.Account.{Account, Goes, Gives}
+use Rattle.std.proofs.Common.{sym, subst, ap}
+use Rattle.force_pool.specs.Account.{Account, Gives}
 use Rattle.force_pool.specs.Links.{Mark}
 use Rattle.force_pool.proofs.WorkerSums.{gives_fresh}
 use Rattle.force_pool.proofs.slot.start_one.Goals as goal

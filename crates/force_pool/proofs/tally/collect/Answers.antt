@@ -1,9 +1,9 @@
-use Rattle.std.proofs.Common.{◌≡◌, ◌≤◌, ◌+◌, ◌∷◌, ◌++◌, [], length, rules, arith, ap, sym, ◌∙◌, subst, append-nil, append_assoc, List}
+use Rattle.std.proofs.Common.{◌≡◌, ◌∷◌, ◌++◌, [], length, arith, ap, sym, ◌∙◌, subst, append-nil, append_assoc, List}
 use Rattle.std.proofs.lemmas.Grind.{common_steps}
 use Rattle.std.proofs.lemmas.List.{length_push}
 use Rattle.force_pool.specs.Links.{Mark}
 use Rattle.force_pool.specs.Sums.{Fits, HasParts}
-use Rattle.force_pool.proofs.WorkerSums.{fits-taken, fits-empty}
+use Rattle.force_pool.proofs.WorkerSums.{fits-taken}
 use Rattle.force_pool.proofs.tally.collect.Goals as goal
 
 pub slots-preserved : goal.slots-preserved

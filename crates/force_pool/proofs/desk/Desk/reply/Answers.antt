@@ -1,4 +1,4 @@
-use Rattle.std.proofs.Common.{◌≡◌, ◌∙◌, sym}
+use Rattle.std.proofs.Common.{◌∙◌, sym}
 use Rattle.force_pool.proofs.QuietBooks.{quiet-is, quiet-closing, quiet-trans}
 use Rattle.force_pool.proofs.desk.Desk.reply.Goals as goal
 

@@ -1,7 +1,7 @@
 use Rattle.std.specs.Prelude.{◌≡◌}
 use Rattle.need_eval.specs.Walking.{work_of}
 use Rattle.force_pool.proofs.WalksConclude.{Between}
-use Rattle.force_pool.proofs.walk.walk.Given as goal
+use Rattle.force_pool.proofs.walk.walk_with.Given as goal
 
 abbrev pub invariant-walk : goal.invariant-walk
 invariant-walk g l =

@@ -1,7 +1,7 @@
-use Rattle.std.proofs.Common.{◌≡◌, ◌≤◌, arith, ◌∙◌, refl}
+use Rattle.std.proofs.Common.{arith, ◌∙◌, refl}
 use Rattle.std.proofs.lemmas.Result.{err_from_is_err_and}
 use Rattle.force_pool.proofs.WalksConclude.{pause-halts, walk-unbegun, walk-begins, walk-stops_reading, walk-ends, walk-halts, walk-stops_writing, walk-goes_on}
-use Rattle.force_pool.proofs.walk.walk.Goals as goal
+use Rattle.force_pool.proofs.walk.walk_with.Goals as goal
 
 pub walk-init : goal.walk-init
 walk-init g c = (walk-begins g.K.Keeper.tells g.K.Keeper.store g.K.Keeper.writes g.K.Keeper.faults g.L.Function.tells g.L.Function.outcome c.args.budget c.args.retries c.args.refs c.args.keeper.now c.in_ok-walker.walker c.in_ok-walker.ensures.fresh c.in_ok-walker.ensures.retries c.in_ok-walker.ensures.walking, refl)
