@@ -30,7 +30,7 @@ fn numbers(forced: &Forced) -> &'static str {
     }
 }
 
-/// Whether each lease passed its gate.
+/// Whether each lease passed its gate, and each link that hung or waited went on in its time.
 fn gate(forced: &Forced) -> &'static str {
     if forced.missed {
         "gate failed"

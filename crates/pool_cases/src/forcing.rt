@@ -1,20 +1,16 @@
 //! Forcing over the links of a case.
 
 use crate::actions::copied;
-use crate::flag::Flag;
-use crate::gates::{LateGate, RaisingLink};
-use crate::liar_link::LiarLink;
 use crate::links::Links;
 use crate::pooled::{Pooled, alone, forced};
 use crate::sayer::Sayer;
 use crate::scene::Scene;
 use crate::seen::Seen;
+use crate::twisted::{gates, hanging, lying};
 use crate::wanted::Wanted;
 use anyhow::{Result, bail};
-use force_pool::GateLink;
-use object_name::{Bytes, Many, TryCopy};
+use object_name::{Many, TryCopy};
 use sandbox_run::Cards;
-use std::alloc::{AllocError, Global};
 use std::sync::Wait;
 use std::thread::Threads;
 use worker_link::{Action, InsideLink, ScriptLink};
@@ -24,7 +20,7 @@ use worker_link::{Action, InsideLink, ScriptLink};
 pub struct Forced {
     pub pooled: Pooled,
     pub alone: Seen,
-    /// Whether a lease went on at a gate that didn't open.
+    /// Whether a lease went on at a gate that didn't open, or a link that hung or waited before its time.
     pub missed: bool,
 }
 
@@ -58,63 +54,6 @@ pub fn scripted<R: Threads + Wait + Sync>(
     forced(rt, scene, wanted, links)
 }
 
-/// A link that says the same to each job.
-fn saying(alloc: Global, word: &Bytes) -> Result<ScriptLink<Sayer>> {
-    let mut actions = Many::new(alloc);
-    actions.push(Action::Repeat)?;
-    let word = word.copy(alloc)?;
-    Ok(ScriptLink::new(alloc, Sayer { word }, actions))
-}
-
-/// A link whose second reply is the first one again, with another word.
-fn lying<R: Threads + Wait + Sync>(
-    rt: &R,
-    scene: &Scene,
-    wanted: &[Wanted],
-    word: &Bytes,
-    lie: &Bytes,
-) -> Result<Pooled> {
-    let alloc = scene.alloc;
-    let mut outputs = Many::new(alloc);
-    outputs.push(lie.copy(alloc)?)?;
-    let mut links = Many::new(alloc);
-    links.push(LiarLink::new(saying(alloc, word)?, 1, outputs))?;
-    forced(rt, scene, wanted, links)
-}
-
-/// A link behind a gate, of which the outcome of one lease opens the gates of all.
-fn gated(
-    alloc: Global,
-    open: &Flag,
-    missed: &Flag,
-) -> Result<GateLink<RaisingLink<InsideLink<Cards>>, LateGate>, AllocError> {
-    let link = RaisingLink {
-        link: InsideLink::new(alloc, Cards),
-        open: open.share()?,
-    };
-    let gate = LateGate {
-        open: open.share()?,
-        missed: missed.share()?,
-    };
-    Ok(GateLink::new(link, gate))
-}
-
-/// Two links behind gates, and whether a lease went on at a gate that didn't open.
-fn gates<R: Threads + Wait + Sync>(
-    rt: &R,
-    scene: &Scene,
-    wanted: &[Wanted],
-) -> Result<(Pooled, bool)> {
-    let open = Flag::new(scene.alloc)?;
-    let missed = Flag::new(scene.alloc)?;
-    let mut links = Many::new(scene.alloc);
-    'links: for _ in 0..2 {
-        links.push(gated(scene.alloc, &open, &missed)?)?;
-    }
-    let pooled = forced(rt, scene, wanted, links)?;
-    Ok((pooled, missed.is_raised()))
-}
-
 /// Forces over the links of a case.
 fn over_links<R: Threads + Wait + Sync>(
     rt: &R,
@@ -127,6 +66,7 @@ fn over_links<R: Threads + Wait + Sync>(
         Links::Scripts(lists) => Ok((scripted(rt, scene, wanted, lists.as_slice())?, false)),
         Links::Liar { word, lie } => Ok((lying(rt, scene, wanted, word, lie)?, false)),
         Links::Gates => gates(rt, scene, wanted),
+        Links::Hanging(replies) => hanging(rt, scene, wanted, *replies),
     }
 }
 

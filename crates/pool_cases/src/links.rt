@@ -16,4 +16,6 @@ pub enum Links {
     Liar { word: Bytes, lie: Bytes },
     /// Two with a gate before the reply on lease 0, which opens once the outcome of lease 2 was given.
     Gates,
+    /// One that gives so many replies and hangs then until the other one is closed, which gives none before.
+    Hanging(u32),
 }

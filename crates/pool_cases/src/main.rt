@@ -9,7 +9,8 @@ mod flag;
 mod forcing;
 mod gates;
 mod glossary;
-mod liar_link;
+mod hanging;
+mod lie;
 mod limits;
 mod links;
 mod pairs;
@@ -20,6 +21,8 @@ mod scene;
 mod script;
 mod seen;
 mod text;
+mod twist_link;
+mod twisted;
 mod wanted;
 
 use anyhow::{Context, Result};

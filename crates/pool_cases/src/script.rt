@@ -125,6 +125,7 @@ impl Script {
         self.scene.links = match word {
             "inside" => Links::Inside(small(rest)?),
             "gated" => Links::Gates,
+            "hanging" => Links::Hanging(small(rest)?),
             "lying" => {
                 let (word, lie) = rest.split_once(' ').context("a word and a lie")?;
                 let glossary = &self.scene.glossary;
