@@ -1,32 +1,30 @@
 #!/bin/sh
-# Times forcing by several workers at once: 48 jobs of `cpp` that take some 50 ms each, with `--local`, `--jobs 1`, 2 and 4, beside `make -j` and
-# `ninja -j` that do the same jobs by one run of the built program each; then 1,000 small joins over one worker on this machine and over four. It
-# prints the milliseconds, the part of the processors that was used, the ratios, and the caller's processor time beside that of its workers. It
-# needs python3, and works in a folder on a memory file system. The one argument, if given, is the number of headers of a job, which sets its time.
+# Times forcing by several workers at once: 48 jobs of `cpp` that take some 50 ms each, with few bytes in and out, with `--local`, `--jobs 1`, 2
+# and 4, beside `make -j` and `ninja -j` that do the same jobs by one run of the built program each; then 1,000 small joins over one worker on this
+# machine and over four. It prints the milliseconds, the part of the processors that was used, the ratios, and the caller's processor time beside
+# that of its workers. It needs python3, and works in a folder on a memory file system. The one argument, if given, is how often a job includes its
+# header, which sets its time.
 set -eu
 here=$(cd "$(dirname "$0")/.." && pwd)
 . "$here/bench/setup.sh"
-headers=${1:-40}
+includes=${1:-500}
 jobs=48
 
 # Makes a store with the jobs, the words that force all of them, a store for each of them, a makefile and a ninja file.
 mkdir -p "$folder/long/.gg/objects"
 cd "$folder/long"
-python3 - "$jobs" "$headers" <<'END'
+python3 - "$jobs" "$includes" <<'END'
 import os, shutil, sys
 from store import keep, thunk
 
-jobs, headers = int(sys.argv[1]), int(sys.argv[2])
+jobs, includes = int(sys.argv[1]), int(sys.argv[2])
 
 def text(lines):
     return ('\n'.join(lines) + '\n').encode()
 
 def make(i):
-    inputs = [('main.c', keep(text(['#include "h%d.h"' % k for k in range(headers)])))]
-    for k in range(headers):
-        lines = ['#define K%d %d' % (k, i)]
-        lines += ['int v%d_%d = K%d;' % (k, line, (k * 7 + line) % headers) for line in range(999)]
-        inputs.append(('h%d.h' % k, keep(text(lines))))
+    header = ['#define K%d_%d %d' % (i, line % 50, line) for line in range(1000)]
+    inputs = [('h.h', keep(text(header))), ('main.c', keep(text(['#include "h.h"'] * includes + ['int v = K%d_1;' % i])))]
     return thunk(keep(b'gg-tool cpp\n'), ['main.c'], inputs, 'out')
 
 items = [make(i) for i in range(jobs)]
