@@ -5,3 +5,4 @@ pub mod Tracked
 pub mod Chain
 pub mod Listing
 pub mod RefSet
+pub mod Growing

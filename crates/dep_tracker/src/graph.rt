@@ -1,6 +1,6 @@
 //! The graph of thunks, as far as it is known.
 
-ghost use Rattle.std.specs.Prelude.{◌≡◌, ◌<◌, false, length, slice_get, Some, OnOk};
+ghost use Rattle.std.specs.Prelude.{◌≡◌, ◌<◌, false, length, slice_get, Some, IfOk, OnOk};
 ghost use Rattle.std.specs.Option.{option_map};
 ghost use Rattle.dep_tracker.specs.Known.{begun, look_up, has_entry, output_at};
 ghost use Rattle.dep_tracker.specs.Tracked.{learn, Add, Absorb};
@@ -39,10 +39,11 @@ impl Graph {
         }
     }
 
-    pub(crate) fn roots(&self) -> &[Ref]
-        ensures { result.now ≡ self.now.roots }
+    /// A copy of what is wanted.
+    pub(crate) fn roots(&self, alloc: Global) -> Result<Vec<Ref>, AllocError>
+        ensures { IfOk result (λ roots. roots.items ≡ self.now.roots) }
     {
-        self.roots.as_slice()
+        self.roots.as_slice().to_vec(alloc)
     }
 
     /// How many thunks were added.

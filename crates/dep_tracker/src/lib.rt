@@ -3,6 +3,7 @@
 
 mod graph;
 pub mod laws;
+mod line;
 mod listing;
 mod names;
 mod readying;
