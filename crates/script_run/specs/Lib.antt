@@ -1,0 +1,5 @@
+pub mod Script
+pub mod Spawning
+pub mod Taking
+pub mod ScriptsFit
+pub mod Jobs
