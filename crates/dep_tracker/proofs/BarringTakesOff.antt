@@ -1,5 +1,5 @@
 -- What is left of lists of names without one of them, and what is ready once a thunk is barred.
-use Rattle.std.proofs.Common.{◌≡◌, ◌⊎◌, inl, inr, ℕ, ◌+◌, ◌<◌, ◌≤◌, length, List, [], ◌∷◌, ◌++◌, Bool, true, false, not, if◌then◌else◌, refl, sym, ap, ◌∙◌, subst, ⊎_elim, arith}
+use Rattle.std.proofs.Common.{◌≡◌, ◌⊎◌, inl, inr, ℕ, ◌+◌, ◌<◌, ◌≤◌, suc, zero, length, List, [], ◌∷◌, ◌++◌, Bool, true, false, not, ◌||◌, if◌then◌else◌, filter, refl, sym, ap, ◌∙◌, subst, ⊎_elim, arith}
 use Rattle.std.specs.List.{AllByRecursion, IsDistinct}
 use Rattle.object_name.specs.Name.{ObjectName}
 use Rattle.thunk_codec.specs.Thunk.{Parts}
@@ -7,17 +7,17 @@ use Rattle.dep_tracker.specs.Known.{Known, same_name, has_name}
 use Rattle.dep_tracker.specs.Tracked.{IsReady, Picks, none, taken, left, without}
 use Rattle.dep_tracker.proofs.Booleans.{is_or_not, contradict, true_or, or_right, or_false, false_or}
 use Rattle.dep_tracker.proofs.NamesAreCompared.{name-self, name-equal}
-use Rattle.dep_tracker.proofs.WalksMeetReach.{has-append, has-right, has-cons}
+use Rattle.dep_tracker.proofs.WalksMeetReach.{has-append, has-left, has-right, has-cons}
 use Rattle.dep_tracker.proofs.NewThunksAreListed.{flipped_false}
 
-pub flipped : (a b : ObjectName) → same_name a b ≡ true → same_name b a ≡ true
+flipped : (a b : ObjectName) → same_name a b ≡ true → same_name b a ≡ true
 flipped a b h = subst (λ c. same_name c a ≡ true) (name-equal a b h) (name-self a)
 
-pub kept_by : (t : Bool) (x : ObjectName) (xs : List ObjectName) → t ≡ false → (if not t then x ∷ xs else xs) ≡ x ∷ xs
+kept_by : (t : Bool) (x : ObjectName) (xs : List ObjectName) → t ≡ false → (if not t then x ∷ xs else xs) ≡ x ∷ xs
 kept_by true x xs h = absurd (grind (arith, h))
 kept_by false x xs h = refl
 
-pub dropped_by : (t : Bool) (x : ObjectName) (xs : List ObjectName) → t ≡ true → (if not t then x ∷ xs else xs) ≡ xs
+dropped_by : (t : Bool) (x : ObjectName) (xs : List ObjectName) → t ≡ true → (if not t then x ∷ xs else xs) ≡ xs
 dropped_by true x xs h = refl
 dropped_by false x xs h = absurd (grind (arith, h))
 

@@ -1,20 +1,20 @@
 -- After each call, what is unknown and ready is so by what is in reach.
-use Rattle.std.proofs.Common.{◌≡◌, ◌⊎◌, inl, inr, ⊎_elim, ℕ, List, [], ◌∷◌, ◌++◌, Bool, true, false, ◌||◌, is_some, Result, Ok, Err, IfOk, refl, sym, ap, ◌∙◌, subst, arith}
+use Rattle.std.proofs.Common.{◌≡◌, ◌⊎◌, inl, inr, ⊎_elim, ℕ, List, [], ◌∷◌, ◌++◌, Bool, true, false, ◌||◌, is_some, cond, Some, None, Result, IfOk, refl, sym, ap, ◌∙◌, subst, arith}
 use Rattle.std.specs.List.{IsDistinct}
 use Rattle.object_name.specs.Name.{ObjectName}
 use Rattle.thunk_codec.specs.declared.reference.Ref.{Ref}
-use Rattle.thunk_codec.specs.declared.reference.Ref.TheVariants.{Out}
+use Rattle.thunk_codec.specs.declared.reference.Ref.TheVariants.{Value, Out}
 use Rattle.thunk_codec.specs.Thunk.{Parts}
 use Rattle.dep_tracker.specs.Walk.{has, ended}
-use Rattle.dep_tracker.specs.Known.{Known, begun, same_name, same_ref, has_name, has_entry}
+use Rattle.dep_tracker.specs.Known.{Known, begun, same_name, same_ref, has_name, has_entry, look_up}
 use Rattle.dep_tracker.specs.Reach.{IsThunkInReach, IsReach, leads_to}
 use Rattle.dep_tracker.specs.Tracked.{Tracked, Call, Add, Absorb, Bar, IsUnknown, AreUnknown, IsReady, AreReady, AreAddedInReach, IsTracked, Picks, none, Lists, Follows, MayCall, learn, barred_by, unknown_still, with_all_new, without}
 use Rattle.dep_tracker.specs.Listing.{AreListed}
-use Rattle.dep_tracker.proofs.Booleans.{is_or_not, or_false}
-use Rattle.dep_tracker.proofs.NamesAreCompared.{name-equal, ref-self, ref-equal}
+use Rattle.dep_tracker.proofs.Booleans.{is_or_not, contradict, or_false, untrue}
+use Rattle.dep_tracker.proofs.NamesAreCompared.{name-self, name-equal, ref-self, ref-equal}
 use Rattle.dep_tracker.proofs.WalksMeetReach.{has-append, meets, only}
 use Rattle.dep_tracker.proofs.ReachGrows.{look_up-last, single-has, entry-other, thunk_reach_grows}
-use Rattle.dep_tracker.proofs.NewThunksAreListed.{IsNew, listed-found, listed-only, listed-once, listed-same}
+use Rattle.dep_tracker.proofs.NewThunksAreListed.{IsNew, listed-stay, listed-found, listed-only, listed-once, listed-same}
 use Rattle.dep_tracker.proofs.BarringTakesOff.{without-found, without-only, without-distinct, barred-more, picks-barred}
 use Rattle.dep_tracker.proofs.ThunksAreReady.{picks_holds}
 
@@ -65,7 +65,7 @@ module _ (t : Tracked) (tracked : IsTracked t) where
   grown call barred name a b r = record { in_reach = thunk_reach_grows t.known call name r; not_added = a; not_barred = b }
 
   -- what is added was, or is added now
-  pub added-more : (name other : ObjectName) (thunk : Parts) → has_entry (t.known.added ++ (name, thunk) ∷ []) other ≡ true →
+  added-more : (name other : ObjectName) (thunk : Parts) → has_entry (t.known.added ++ (name, thunk) ∷ []) other ≡ true →
       (has_entry t.known.added other ≡ true) ⊎ (other ≡ name)
   added-more name other thunk h = ⊎_elim inl
       (λ n. inr (name-equal other name (single-has name other thunk (ap is_some (sym (look_up-last t.known.added (name, thunk) other n)) ∙ h))))
@@ -152,12 +152,6 @@ pub lists-over : {F : Type 0} (r : Result Tracked F) (k k' : Known) (barred list
     IfOk r (Lists k' barred listed') → IfOk r (Lists k barred listed)
 lists-over r k k' barred listed listed' e f l =
     subst (λ k. IfOk r (Lists k barred listed)) e (subst (λ l. IfOk r (Lists k' barred l)) f l)
-
--- what was made of what is listed lists it
-pub lists-made : {F : Type 0} (r : Result Tracked F) (k : Known) (barred listed : List ObjectName) (t : Tracked) → IfOk r (λ made. made ≡ t) → Lists k barred listed t →
-    IfOk r (Lists k barred listed)
-lists-made (Ok made) k barred listed t e l = subst (Lists k barred listed) (sym e) l
-lists-made (Err fault) k barred listed t e l = tt
 
 pub begun-listed : (k : Known) (roots : List Ref) (barred listed : List ObjectName) → k ≡ begun roots → barred ≡ [] → listed ≡ [] → AreListed k barred listed
 begun-listed k roots barred listed e f g =

@@ -12,13 +12,4 @@ pub mod CallsAreTracked
 pub mod OutcomesAreTracked
 pub mod OthersStayListed
 pub mod SetsHoldRefs
-pub mod WalksEnd
-pub mod ReachIsKept
-pub mod FewAreNew
-pub mod LinesAreKept
-pub mod NewOnesAreTaken
-pub mod YieldsAreMet
-pub mod NewOnesAreInOrder
-pub mod AddedOnesAreListed
-pub mod CallsGoAhead
 pub mod PublicLaws

@@ -1,10 +1,11 @@
 -- A call is about one thunk: the others that are unknown or ready stay so.
-use Rattle.std.proofs.Common.{◌≡◌, ⊎_elim, ℕ, zero, suc, List, [], ◌∷◌, ◌++◌, true, false, Some, slice_get, refl, sym, ap, ◌∙◌, subst, arith}
+use Rattle.std.proofs.Common.{◌≡◌, ◌⊎◌, inl, inr, ⊎_elim, ℕ, zero, suc, List, [], ◌∷◌, ◌++◌, Bool, true, false, Option, Some, None, is_some, slice_get, refl, sym, ap, ◌∙◌, subst, arith}
 use Rattle.std.proofs.lemmas.Option.{none-some, same_Some}
 use Rattle.std.specs.List.{AllByRecursion}
+use Rattle.object_name.specs.declared.kind.Kind.TheVariants as kinds
 use Rattle.object_name.specs.Name.{ObjectName}
 use Rattle.thunk_codec.specs.declared.reference.Ref.{Ref}
-use Rattle.thunk_codec.specs.declared.reference.Ref.TheVariants.{Out}
+use Rattle.thunk_codec.specs.declared.reference.Ref.TheVariants.{Value, Out}
 use Rattle.thunk_codec.specs.Thunk.{Parts}
 use Rattle.thunk_codec.specs.Resolved.{refs_of}
 use Rattle.dep_tracker.specs.Known.{Known, same_name, has_name, has_entry, look_up, output_in, output_at}

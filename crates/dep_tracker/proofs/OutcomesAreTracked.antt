@@ -1,10 +1,10 @@
 -- What a tracker has after any calls.
-use Rattle.std.proofs.Common.{◌≡◌, List, [], fold, refl, sym, ap, ◌∙◌, subst}
+use Rattle.std.proofs.Common.{◌≡◌, List, [], ◌∷◌, fold, refl, sym, ap, ◌∙◌, subst}
 use Rattle.object_name.specs.Name.{ObjectName}
 use Rattle.thunk_codec.specs.declared.reference.Ref.{Ref}
 use Rattle.dep_tracker.specs.Known.{Known, begun, same_ref}
-use Rattle.dep_tracker.specs.Reach.{leads_to}
-use Rattle.dep_tracker.specs.Tracked.{Tracked, Call, IsReady, IsTracked, Lists, Leads, done, called, IsAfter, learn, barred_by, with_all_new}
+use Rattle.dep_tracker.specs.Reach.{IsReach, leads_to}
+use Rattle.dep_tracker.specs.Tracked.{Tracked, Call, IsReady, AreReady, IsTracked, Lists, Begins, Follows, Leads, done, called, IsAfter, learn, barred_by, unknown_still, with_all_new}
 use Rattle.dep_tracker.proofs.NamesAreCompared.{ref-self, ref-equal}
 use Rattle.dep_tracker.proofs.WalksMeetReach.{unique}
 use Rattle.dep_tracker.proofs.ThunksAreReady.{picks_one}

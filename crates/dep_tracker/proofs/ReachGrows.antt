@@ -1,10 +1,11 @@
 -- What is in reach stays so when more is known.
-use Rattle.std.proofs.Common.{◌≡◌, ⊎_elim, List, [], ◌∷◌, ◌++◌, Bool, true, false, cond, Option, Some, None, is_some, refl, sym, ap, ◌∙◌, subst, arith}
+use Rattle.std.proofs.Common.{◌≡◌, ◌⊎◌, inl, inr, ⊎_elim, ℕ, List, [], ◌∷◌, ◌++◌, Bool, true, false, cond, Option, Some, None, is_some, refl, sym, ap, ◌∙◌, subst, arith}
 use Rattle.object_name.specs.Name.{ObjectName}
 use Rattle.thunk_codec.specs.declared.reference.Ref.{Ref}
 use Rattle.thunk_codec.specs.declared.reference.Ref.TheVariants.{Value, Out}
+use Rattle.thunk_codec.specs.Thunk.{Parts}
 use Rattle.dep_tracker.specs.Walk.{has, Reachable, root, after}
-use Rattle.dep_tracker.specs.Known.{Known, same_name, same_ref, look_up, has_entry, refs_in, output_in}
+use Rattle.dep_tracker.specs.Known.{Known, same_name, same_ref, look_up, has_entry, refs_in, output_in, output_at}
 use Rattle.dep_tracker.specs.Reach.{leads_to, yield_of, IsInReach, IsThunkInReach}
 use Rattle.dep_tracker.specs.Tracked.{Call, Add, Absorb, Bar, learn}
 use Rattle.dep_tracker.proofs.Booleans.{is_or_not, contradict, untrue}

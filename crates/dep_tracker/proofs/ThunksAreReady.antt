@@ -2,12 +2,13 @@
 use Rattle.std.proofs.Common.{◌≡◌, ⊎_elim, ℕ, ◌+◌, take, slice_get, Some, List, [], ◌∷◌, ◌++◌, map, Bool, true, false, refl, sym, ap, subst, arith}
 use Rattle.std.specs.List.{AllByRecursion}
 use Rattle.object_name.specs.Name.{ObjectName}
+use Rattle.thunk_codec.specs.declared.reference.Ref.{Ref}
 use Rattle.thunk_codec.specs.Thunk.{Parts}
 use Rattle.dep_tracker.specs.Known.{Known, has_entry, has_name, same_name}
 use Rattle.dep_tracker.specs.Reach.{IsThunkInReach, IsValued}
 use Rattle.dep_tracker.specs.Tracked.{IsReady, Picks, none, taken, left}
 use Rattle.dep_tracker.specs.Listing.{Tells, PicksMore}
-use Rattle.dep_tracker.proofs.Booleans.{contradict}
+use Rattle.dep_tracker.proofs.Booleans.{contradict, true_or}
 use Rattle.dep_tracker.proofs.EntriesAreFound.{take-next}
 use Rattle.dep_tracker.proofs.NamesAreCompared.{name-equal}
 use Rattle.dep_tracker.proofs.WalksMeetReach.{has-cons}

@@ -1,7 +1,7 @@
 -- What a walk ends with: all that it had met, all that was before it, with each node those after it, and nothing else.
-use Rattle.std.proofs.Common.{◌≡◌, List, [], ◌∷◌, ◌++◌, Bool, true, false, ◌||◌, ◌⊎◌, refl, sym, ◌∙◌, subst, inl, inr, ⊎_elim, arith}
+use Rattle.std.proofs.Common.{◌≡◌, ℕ, suc, zero, ◌<◌, ◌≤◌, ◌+◌, List, [], ◌∷◌, ◌++◌, length, Bool, true, false, ◌||◌, ◌⊎◌, refl, sym, ap, ◌∙◌, subst, inl, inr, ⊎_elim, arith}
 use Rattle.std.proofs.lemmas.List.Folds.{list_any-append}
-use Rattle.dep_tracker.proofs.Booleans.{or_true, true_or, or_right}
+use Rattle.dep_tracker.proofs.Booleans.{is_or_not, or_true, true_or, or_right}
 use Rattle.dep_tracker.specs.Walk.{has, Walks, ended, again, first, Reachable, root, after}
 
 module _ {A : Type 0} (same : A → A → Bool) where

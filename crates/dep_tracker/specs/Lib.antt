@@ -5,4 +5,3 @@ pub mod Tracked
 pub mod Chain
 pub mod Listing
 pub mod RefSet
-pub mod Growing

@@ -1,6 +1,6 @@
 //! The graph of thunks, as far as it is known.
 
-ghost use Rattle.std.specs.Prelude.{◌≡◌, ◌<◌, false, length, slice_get, Some, IfOk, OnOk};
+ghost use Rattle.std.specs.Prelude.{◌≡◌, ◌<◌, false, length, slice_get, Some, OnOk};
 ghost use Rattle.std.specs.Option.{option_map};
 ghost use Rattle.dep_tracker.specs.Known.{begun, look_up, has_entry, output_at};
 ghost use Rattle.dep_tracker.specs.Tracked.{learn, Add, Absorb};
@@ -39,11 +39,10 @@ impl Graph {
         }
     }
 
-    /// A copy of what is wanted.
-    pub(crate) fn roots(&self, alloc: Global) -> Result<Vec<Ref>, AllocError>
-        ensures { IfOk result (λ roots. roots.items ≡ self.now.roots) }
+    pub(crate) fn roots(&self) -> &[Ref]
+        ensures { result.now ≡ self.now.roots }
     {
-        self.roots.as_slice().to_vec(alloc)
+        self.roots.as_slice()
     }
 
     /// How many thunks were added.

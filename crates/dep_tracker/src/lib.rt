@@ -3,7 +3,6 @@
 
 mod graph;
 pub mod laws;
-mod line;
 mod listing;
 mod names;
 mod readying;

@@ -55,7 +55,7 @@ fn is_ready(
 
 /// Lists a thunk in reach, if it is ready.
 #[tactic(auto, using(crate::proofs::ThunksAreReady::more_taken, crate::proofs::ThunksAreReady::more_left))]
-pub(crate) fn list_if_ready(
+fn list_if_ready(
     alloc: Global,
     graph: &Graph,
     barred: &IndexSet<Name>,

@@ -1,7 +1,6 @@
 //! Sets of references, in the order in which they were put in.
 
-ghost use Rattle.std.specs.Prelude.{◌≡◌, ◌≤◌, ◌++◌, ◌∷◌, [], true, false, drop, length, map, IsTrue, OnOk};
-ghost use Rattle.std.specs.List.{AllByRecursion};
+ghost use Rattle.std.specs.Prelude.{◌≡◌, ◌++◌, ◌∷◌, [], false, map, OnOk};
 ghost use Rattle.dep_tracker.specs.Walk.{has};
 ghost use Rattle.dep_tracker.specs.Known.{same_ref};
 ghost use Rattle.dep_tracker.specs.RefSet.{node_of, ref_of};
@@ -57,18 +56,6 @@ impl RefSet {
         self.0.contains(&Node::of(reference))
     }
 
-    /// Whether all of some references are there.
-    pub(crate) fn has_all(&self, refs: &[Ref]) -> bool
-        ensures { IsTrue result → AllByRecursion (λ ref. has same_ref self.now ref ≡ true) refs.now }
-    {
-        'refs: for reference in refs {
-            if !self.has(reference) {
-                return false;
-            }
-        }
-        true
-    }
-
     /// Appends a reference that is new.
     pub(crate) fn push(&mut self, reference: &Ref) -> Result<(), AllocError>
         requires { has same_ref self.old reference.now ≡ false }
@@ -78,26 +65,10 @@ impl RefSet {
         Ok(())
     }
 
-    /// How many references there are.
-    pub(crate) fn len(&self) -> usize
-        ensures { result ≡ length self.now }
-    {
-        self.0.len()
-    }
-
     /// The same references, in order.
     pub(crate) fn nodes(&self) -> &[Node]
         ensures { map ref_of result.now ≡ self.now }
     {
         self.0.as_slice()
-    }
-
-    /// The references from a place on, in order.
-    pub(crate) fn nodes_from(&self, place: usize) -> &[Node]
-        requires { place ≤ length self.now }
-        ensures { map ref_of result.now ≡ drop place self.now }
-    {
-        let (_, rest) = self.nodes().split_at(place);
-        rest
     }
 }

@@ -4,16 +4,13 @@ ghost use Rattle.std.specs.Prelude.{◌≡◌, ◌≢◌, ◌+◌, ◌≤◌, �
 ghost use Rattle.indexmap.specs.IndexSet.{spare};
 ghost use Rattle.dep_tracker.specs.declared.tracker.TrackFault.TheVariants.{Memory};
 ghost use Rattle.dep_tracker.specs.Known.{begun, has_name};
-ghost use Rattle.dep_tracker.specs.Growing.{HoldsReach, IsAhead, OpensAt};
-ghost use Rattle.dep_tracker.specs.Tracked.{AreReady, IsTracked, Lists, without};
+ghost use Rattle.dep_tracker.specs.Listing.{AreListed};
+ghost use Rattle.dep_tracker.specs.Tracked.{Lists, without};
 
 use crate::graph::Graph;
-use crate::line::Listed;
-use crate::listing::{list_added, list_met, take_off};
-use crate::names::put_name;
-use crate::readying::{list_if_ready, list_ready};
-use crate::ref_set::RefSet;
-use crate::walk::{is_flat, refs_of, walk_on, yields_of};
+use crate::listing::{list_new, put_name, take_name, take_off};
+use crate::readying::list_ready;
+use crate::walk::walk;
 use indexmap::IndexSet;
 use object_name::{Many, Name};
 use std::alloc::{AllocError, AllocFailed, Global};
@@ -29,27 +26,23 @@ pub const MAX_NODES: usize = 262_144;
 #[derive(Drop)]
 pub struct Tracker {
     graph: Graph,
-    /// The references in reach.
-    reach: RefSet,
     barred: IndexSet<Name>,
-    unknown: Listed,
+    unknown: IndexSet<Name>,
     ready: Vec<Name>,
 }
 
 impl Model for Tracker {
     ghost use Rattle.std.specs.Prelude.{◌+◌, ◌≤◌, length};
     ghost use Rattle.indexmap.specs.IndexSet.{spare};
-    ghost use Rattle.dep_tracker.specs.Growing.{HoldsReach};
     ghost use Rattle.dep_tracker.specs.Tracked.{Tracked, IsTracked};
 
     ghost Value = { Tracked };
 
-    ghost view = { λ t. record { known = t.graph; barred = t.barred.keys; unknown = t.unknown; ready = t.ready.items } };
+    ghost view = { λ t. record { known = t.graph; barred = t.barred.keys; unknown = t.unknown.keys; ready = t.ready.items } };
 
-    // What is in reach is kept, and there is room to bar all that may be barred.
-    ghost invariant = { λ t. IsTracked (record { known = t.graph; barred = t.barred.keys; unknown = t.unknown; ready = t.ready.items })
-        × HoldsReach t.graph t.reach
-        × (length t.unknown + length t.ready.items ≤ spare t.barred) };
+    // There is room to bar all that may be barred.
+    ghost invariant = { λ t. IsTracked (record { known = t.graph; barred = t.barred.keys; unknown = t.unknown.keys; ready = t.ready.items })
+        × (length t.unknown.keys + length t.ready.items ≤ spare t.barred) };
 }
 
 /// Why a thunk isn't added.
@@ -69,80 +62,26 @@ impl From<AllocError> for TrackFault {
     }
 }
 
-/// A tracker of these, with room to bar all that may be barred.
-fn with_room(
+/// A tracker by what is known and barred, where these unknown thunks are listed.
+fn track(
+    alloc: Global,
     graph: Graph,
-    reach: RefSet,
     mut barred: IndexSet<Name>,
-    unknown: Listed,
-    ready: Vec<Name>,
+    mut unknown: IndexSet<Name>,
 ) -> Result<Tracker, AllocError>
-    requires tracked { IsTracked (record { known = graph; barred = barred.keys; unknown = unknown; ready = ready.items }) }
-    requires reach { HoldsReach graph reach }
-    ensures { IfOk result (λ t. t ≡ record { known = graph; barred = barred.keys; unknown = unknown; ready = ready.items }) }
+    requires { AreListed graph barred.keys unknown.keys }
+    ensures { IfOk result (λ t. Lists graph barred.keys unknown.keys t) }
 {
+    let reach = walk(alloc, &graph)?;
+    list_new(&graph, &barred, &reach, &mut unknown)?;
+    let ready = list_ready(alloc, &graph, &barred)?;
     barred.reserve(unknown.len() + ready.len())?;
     Ok(Tracker {
         graph,
-        reach,
         barred,
         unknown,
         ready,
     })
-}
-
-/// A tracker by what is known and barred, where these unknown and ready thunks are listed, these references were met, and the
-/// others in reach come by some that come next.
-fn track(
-    alloc: Global,
-    graph: Graph,
-    mut reach: RefSet,
-    next: Vec<Ref>,
-    barred: IndexSet<Name>,
-    mut unknown: Listed,
-    ready: Vec<Name>,
-) -> Result<Tracker, AllocError>
-    requires ahead { IsAhead graph barred.keys unknown reach next.items }
-    requires ready { AreReady graph barred.keys ready.items }
-    ensures { IfOk result (λ t. Lists graph barred.keys unknown t) }
-{
-    let from = reach.len();
-    walk_on(alloc, &graph, &mut reach, next)?;
-    list_met(alloc, &graph, &barred, &reach, from, &mut unknown)?;
-    with_room(graph, reach, barred, unknown, ready)
-}
-
-/// The same, where a thunk was added that was unknown, and its references come next.
-fn track_added(
-    alloc: Global,
-    graph: Graph,
-    mut reach: RefSet,
-    name: &Name,
-    next: Vec<Ref>,
-    barred: IndexSet<Name>,
-    mut unknown: Listed,
-    ready: Vec<Name>,
-) -> Result<Tracker, AllocError>
-    requires ahead { IsAhead graph barred.keys (without unknown name.now) reach next.items }
-    requires opens { OpensAt graph name.now reach next.items }
-    requires ready { AreReady graph barred.keys ready.items }
-    ensures { IfOk result (λ t. Lists graph barred.keys (without unknown name.now) t) }
-{
-    unknown.take(name);
-    let from = reach.len();
-    let flat = is_flat(alloc, &graph, name, &reach, next.as_slice())?;
-    walk_on(alloc, &graph, &mut reach, next)?;
-    list_added(
-        alloc,
-        &graph,
-        &barred,
-        &reach,
-        from,
-        name,
-        flat,
-        &mut unknown,
-    )?;
-    with_room(graph, reach, barred, unknown, ready)
 }
 
 impl Tracker {
@@ -156,16 +95,7 @@ impl Tracker {
         ensures { IfOk result (λ t. Begins roots t) }
     {
         let graph = Graph::new(alloc, roots);
-        let next = graph.roots(alloc)?;
-        track(
-            alloc,
-            graph,
-            RefSet::new(alloc),
-            next,
-            IndexSet::new(alloc),
-            Listed::new(alloc),
-            Vec::new(alloc),
-        )
+        track(alloc, graph, IndexSet::new(alloc), IndexSet::new(alloc))
     }
 
     /// A tracker of nothing.
@@ -174,9 +104,8 @@ impl Tracker {
     {
         Tracker {
             graph: Graph::new(alloc, Many::new(alloc)),
-            reach: RefSet::new(alloc),
             barred: IndexSet::new(alloc),
-            unknown: Listed::new(alloc),
+            unknown: IndexSet::new(alloc),
             ready: Vec::new(alloc),
         }
     }
@@ -220,15 +149,13 @@ impl Tracker {
     {
         let Tracker {
             mut graph,
-            reach,
             barred,
-            unknown,
-            mut ready,
+            mut unknown,
+            ..
         } = self;
-        let next = refs_of(alloc, &thunk)?;
-        list_if_ready(alloc, &graph, &barred, &name, &thunk, &mut ready)?;
         graph.add(name, thunk)?;
-        track_added(alloc, graph, reach, &name, next, barred, unknown, ready)
+        take_name(&mut unknown, &name);
+        track(alloc, graph, barred, unknown)
     }
 
     /// Takes the outputs of a thunk that is ready. After want of memory nothing is tracked.
@@ -259,15 +186,12 @@ impl Tracker {
     {
         let Tracker {
             mut graph,
-            reach,
             barred,
             unknown,
             ..
         } = self;
-        let next = yields_of(alloc, &reach, &name, outputs.as_slice())?;
         graph.absorb(name, outputs)?;
-        let ready = list_ready(alloc, &graph, &barred)?;
-        track(alloc, graph, reach, next, barred, unknown, ready)
+        track(alloc, graph, barred, unknown)
     }
 
     /// Says that a thunk that is unknown or ready can't be run ahead. This brings nothing new into reach, and takes no memory.
@@ -277,7 +201,7 @@ impl Tracker {
         ensures follows { Follows self.old (Bar name) self.new }
     {
         put_name(&mut self.barred, name);
-        self.unknown.take(&name);
+        take_name(&mut self.unknown, &name);
         take_off(&mut self.ready, &name);
     }
 }

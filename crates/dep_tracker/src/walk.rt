@@ -1,12 +1,10 @@
 //! Walks from what is wanted.
 
-ghost use Rattle.std.specs.Prelude.{◌≡◌, ◌++◌, ◌∷◌, [], true, false, Some, IfOk, IsTrue, OnOk, reverse, slice_get};
-ghost use Rattle.std.specs.List.{AllByRecursion};
+ghost use Rattle.std.specs.Prelude.{◌≡◌, ◌++◌, ◌∷◌, [], false, Some, IfOk, OnOk, reverse};
 ghost use Rattle.thunk_codec.specs.declared.reference.Ref.TheVariants.{Out};
-ghost use Rattle.dep_tracker.specs.Walk.{has, Steps, Walks};
+ghost use Rattle.dep_tracker.specs.Walk.{has, Steps};
 ghost use Rattle.dep_tracker.specs.Known.{look_up, output_at, refs_in, same_ref};
 ghost use Rattle.dep_tracker.specs.Reach.{IsReach, leads_to, yield_of};
-ghost use Rattle.dep_tracker.specs.Growing.{AreYields, IsFlat, LeadsBack, yield_met};
 
 use crate::graph::Graph;
 use crate::ref_set::RefSet;
@@ -61,21 +59,6 @@ fn append_yielded(
         Some(output) => append_yield(output, onto),
         None => Ok(()),
     }
-}
-
-/// Appends the reference that an output yields, if its own is in reach.
-fn append_if_met(
-    reach: &RefSet,
-    reference: &Ref,
-    output: Name,
-    onto: &mut Vec<Ref>,
-) -> Result<(), AllocError>
-    ensures { OnOk result (onto.new.items ≡ onto.old.items ++ yield_met reach.now reference.now (Some output)) }
-{
-    if !reach.has(reference) {
-        return Ok(());
-    }
-    append_yield(output, onto)
 }
 
 /// Appends what an output leads to.
@@ -140,112 +123,19 @@ fn step(
     meet(alloc, graph, reference, met, todo)
 }
 
-/// Goes on with a walk from what was met, by the references that come next.
-#[tactic(auto, using(crate::proofs::WalksGoOn::steps_from, crate::proofs::WalksGoOn::steps_at, crate::proofs::WalksGoOn::steps_end))]
-pub(crate) fn walk_on(
-    alloc: Global,
-    graph: &Graph,
-    met: &mut RefSet,
-    next: Vec<Ref>,
-) -> Result<(), AllocError>
-    ensures { OnOk result (Walks same_ref (leads_to graph.now.absorbed graph.now.added) met.old next.items met.new) }
-{
-    let mut todo = next;
-    todo.reverse();
-    'steps: for _ in 0..u64::MAX {
-        let Some(reference) = todo.pop() else {
-            return Ok(());
-        };
-        step(alloc, graph, &reference, met, &mut todo)?;
-    }
-    Err(AllocError)
-}
-
 /// The references in reach, in the order of a depth-first walk from what is wanted.
+#[tactic(auto, using(crate::proofs::WalksGoOn::steps_from, crate::proofs::WalksGoOn::steps_at, crate::proofs::WalksGoOn::steps_end))]
 pub(crate) fn walk(alloc: Global, graph: &Graph) -> Result<RefSet, AllocError>
     ensures { IfOk result (λ met. IsReach graph.now met) }
 {
     let mut met = RefSet::new(alloc);
-    let roots = graph.roots(alloc)?;
-    walk_on(alloc, graph, &mut met, roots)?;
-    Ok(met)
-}
-
-/// The references of a thunk: its function's, and then those of its inputs.
-pub(crate) fn refs_of(alloc: Global, thunk: &Thunk) -> Result<Vec<Ref>, AllocError>
-    ensures { IfOk result (λ refs. refs.items ≡ refs_in (Some thunk.now)) }
-{
-    let mut refs = Vec::new(alloc);
-    append_refs(thunk, &mut refs)?;
-    Ok(refs)
-}
-
-/// Whether a reference leads only to what was met, unless it was met itself.
-fn leads_back(
-    alloc: Global,
-    graph: &Graph,
-    met: &RefSet,
-    reference: &Ref,
-) -> Result<bool, AllocError>
-    ensures { IfOk result (λ back. IsTrue back → LeadsBack graph.now met.now reference.now) }
-{
-    if met.has(reference) {
-        return Ok(true);
-    }
-    let next = next_of(alloc, graph, reference)?;
-    Ok(met.has_all(next.as_slice()))
-}
-
-/// Whether those of some references that weren't met lead only to what was.
-fn lead_back(alloc: Global, graph: &Graph, met: &RefSet, refs: &[Ref]) -> Result<bool, AllocError>
-    ensures { IfOk result (λ back. IsTrue back → AllByRecursion (LeadsBack graph.now met.now) refs.now) }
-{
-    'refs: for reference in refs {
-        if !leads_back(alloc, graph, met, reference)? {
-            return Ok(false);
-        }
-    }
-    Ok(true)
-}
-
-/// Whether a thunk isn't absorbed, and those of its references that weren't met lead only to what was.
-pub(crate) fn is_flat(
-    alloc: Global,
-    graph: &Graph,
-    name: &Name,
-    met: &RefSet,
-    refs: &[Ref],
-) -> Result<bool, AllocError>
-    ensures { IfOk result (λ flat. flat ≡ true → IsFlat graph.now name.now met.now refs.now) }
-{
-    if graph.is_absorbed(name) {
-        return Ok(false);
-    }
-    lead_back(alloc, graph, met, refs)
-}
-
-/// One of some outputs.
-fn output_in(outputs: &[Name], index: u32) -> Option<Name>
-    ensures { result ≡ slice_get outputs.now index }
-{
-    outputs.get(index as usize).copied()
-}
-
-/// What the outputs of a thunk yield that are in reach.
-pub(crate) fn yields_of(
-    alloc: Global,
-    reach: &RefSet,
-    name: &Name,
-    outputs: &[Name],
-) -> Result<Vec<Ref>, AllocError>
-    ensures { IfOk result (λ yields. AreYields (λ _. Unit {0}) reach.now name.now outputs.now yields.items) }
-{
-    let mut yields = Vec::new(alloc);
-    'outputs: for index in 0..u32::MAX {
-        let Some(output) = output_in(outputs, index) else {
-            return Ok(yields);
+    let mut todo = graph.roots().to_vec(alloc)?;
+    todo.reverse();
+    'steps: for _ in 0..u64::MAX {
+        let Some(reference) = todo.pop() else {
+            return Ok(met);
         };
-        append_if_met(reach, &Ref::Out(*name, index), output, &mut yields)?;
+        step(alloc, graph, &reference, &mut met, &mut todo)?;
     }
     Err(AllocError)
 }

@@ -1,4 +1,4 @@
-use Rattle.std.proofs.Common.{◌∙◌}
+use Rattle.std.proofs.Common.{sym, ◌∙◌}
 use Rattle.dep_tracker.proofs.EntriesAreFound.{entry-last}
 use Rattle.dep_tracker.proofs.graph.Graph.absorb.Goals as goal
 

@@ -1,4 +1,4 @@
-use Rattle.std.proofs.Common.{map, ap}
+use Rattle.std.proofs.Common.{map, ap, ◌∙◌}
 use Rattle.dep_tracker.specs.RefSet.{ref_of}
 use Rattle.dep_tracker.proofs.ref_set.RefSet.nodes.Goals as goal
 

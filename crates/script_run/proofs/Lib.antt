@@ -1,2 +1,0 @@
-pub mod JobRules
-pub mod LeftFiles
